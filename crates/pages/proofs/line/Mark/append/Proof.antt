@@ -1,0 +1,25 @@
+use borrow.Author.Needs.{needs}
+use mathlib.Core.Path.{sym}
+use Rattle.pages.proofs.line.Mark.append.Statement.{statement}
+use Rattle.pages.proofs.line.Mark.append.Tie as tie
+
+enum-told : tie.Need-enum-told
+enum-told c = search needs
+
+enum-told-2 : tie.Need-enum-told-2
+enum-told-2 c = search needs
+
+enum-known-self : tie.Need-enum-known-self
+enum-known-self c = search needs
+
+returns : tie.Need-returns
+returns c = search needs
+
+returns-2 : tie.Need-returns-2
+returns-2 c = search needs
+
+returns-3 : tie.Need-returns-3
+returns-3 c = simp (c .before .self .given .1)
+
+pub append-spec : {M : Type 1} → statement M
+append-spec = tie.close (tie.spec enum-told enum-told-2 enum-known-self returns returns-2 returns-3)
