@@ -4,9 +4,10 @@ use native.Mathlib.Numerals.{add-one}
 use native.Mathlib.Omega.{arith}
 use native.Mathlib.Nat.{le-antisymm}
 use mathlib.Core.Path.{_≡_, refl, sym, ap, subst, _∙_}
-use mathlib.Core.Bool.{Bool, true, false, not, _&&_, _||_, false≢true, true≢false}
+use mathlib.Core.Bool.{Bool, true, false, cond, not, _&&_, _||_, false≢true, true≢false}
 use mathlib.Core.Logic.{_⊎_, inl, inr, ⊎-elim}
 use native.Mathlib.Decide.{decLt, ℕ-discrete}
+use borrow.Author.Tests.{not-true, not-false}
 use Rattle.below.specs.Below.{all, any}
 
 -- `&&` and `||` by the values of their parts
@@ -41,6 +42,25 @@ or-false p q = rw (p, q)
 pub or-cases : (a b : Bool) → a || b ≡ true → (a ≡ true) ⊎ (b ≡ true)
 or-cases true b h = inl refl
 or-cases false b h = inr h
+
+-- what a branch on a test that stands for `a` picks
+pub or-yes : {r a : Bool} (b : Bool) → r ≡ a → r ≡ true → true ≡ a || b
+or-yes b e h = rw (← e, h)
+
+pub or-no : {r a b s : Bool} → r ≡ a → r ≡ false → s ≡ b → s ≡ a || b
+or-no e h d = rw (← e, h) d
+
+pub and-yes : {r a b s : Bool} → r ≡ a → r ≡ true → s ≡ b → s ≡ a && b
+and-yes e h d = rw (← e, h) d
+
+pub and-no : {r a : Bool} (b : Bool) → r ≡ a → r ≡ false → false ≡ a && b
+and-no b e h = rw (← e, h)
+
+pub pick-yes {ℓ} : {A : Type ℓ} {r b : Bool} {x z : A} (y : A) → r ≡ b → r ≡ true → z ≡ x → z ≡ cond b x y
+pick-yes y e h d = rw (← e, h) d
+
+pub pick-no {ℓ} : {A : Type ℓ} {r b : Bool} {y z : A} (x : A) → r ≡ b → r ≡ false → z ≡ y → z ≡ cond b x y
+pick-no x e h d = rw (← e, h) d
 
 -- a test is true or false
 pub decided : (b : Bool) → (b ≡ true) ⊎ (b ≡ false)
@@ -125,35 +145,37 @@ any-same zero f g h = refl
 any-same (suc n) f g h = rw (any-same n f g (λ k l. h k (omega arith)), h n (omega arith))
 
 -- The loop that computes `all n f`, left at the first number that fails: its invariant is `(k ≤ n) × (all k f ≡ true)`.
+-- The turn calls the test, whose answer r is f k, and leaves where `!r`.
 pub all-start : (f : ℕ → Bool) → all 0 f ≡ true
 unfolding all
 all-start f = refl
 
-pub all-more : {k : ℕ} (f : ℕ → Bool) → all k f ≡ true → f k ≡ true → all (k + 1) f ≡ true
+pub all-more : {k : ℕ} {r : Bool} (f : ℕ → Bool) → all k f ≡ true → r ≡ f k → not r ≡ false → all (k + 1) f ≡ true
 unfolding all
-all-more {k} f p q = rw add-one (and-true p q)
+all-more {k} {r} f p e q = rw add-one (and-true p (sym e ∙ not-false r q))
 
-pub all-left : (n k : ℕ) (f : ℕ → Bool) → k < n → f k ≡ false → false ≡ all n f
-all-left n k f l h = sym (not-true-false (all n f) (λ e. true≢false (sym (all-at n f e k l) ∙ h)))
+pub all-left : {k : ℕ} {r : Bool} (n : ℕ) (f : ℕ → Bool) → k < n → r ≡ f k → not r ≡ true → false ≡ all n f
+all-left {k} {r} n f l e h = sym (not-true-false (all n f) (λ a. true≢false (sym (all-at n f a k l) ∙ sym e ∙ not-true r h)))
 
-pub all-ends : (n k : ℕ) (f : ℕ → Bool) → all k f ≡ true → k ≤ n → n ≤ k → true ≡ all n f
-all-ends n k f h a b = subst (λ (m : ℕ). true ≡ all m f) (le-antisymm a b) (sym h)
+pub all-ends : {k : ℕ} (n : ℕ) (f : ℕ → Bool) → all k f ≡ true → k ≤ n → n ≤ k → true ≡ all n f
+all-ends n f h a b = subst (λ (m : ℕ). true ≡ all m f) (le-antisymm a b) (sym h)
 
 pub ruleset all-loop = (all-start, all-more, all-left, all-ends)
 
 -- The loop that computes `any n f`, left at the first number that passes: its invariant is `(k ≤ n) × (any k f ≡ false)`.
+-- The turn calls the test, whose answer r is f k, and leaves where r.
 pub any-start : (f : ℕ → Bool) → any 0 f ≡ false
 unfolding any
 any-start f = refl
 
-pub any-more : {k : ℕ} (f : ℕ → Bool) → any k f ≡ false → f k ≡ false → any (k + 1) f ≡ false
+pub any-more : {k : ℕ} {r : Bool} (f : ℕ → Bool) → any k f ≡ false → r ≡ f k → r ≡ false → any (k + 1) f ≡ false
 unfolding any
-any-more {k} f p q = rw add-one (or-false p q)
+any-more {k} f p e q = rw add-one (or-false p (sym e ∙ q))
 
-pub any-left : (n k : ℕ) (f : ℕ → Bool) → k < n → f k ≡ true → true ≡ any n f
-any-left n k f l h = sym (any-true n f k l h)
+pub any-left : {k : ℕ} {r : Bool} (n : ℕ) (f : ℕ → Bool) → k < n → r ≡ f k → r ≡ true → true ≡ any n f
+any-left {k} n f l e h = sym (any-true n f k l (sym e ∙ h))
 
-pub any-ends : (n k : ℕ) (f : ℕ → Bool) → any k f ≡ false → k ≤ n → n ≤ k → false ≡ any n f
-any-ends n k f h a b = subst (λ (m : ℕ). false ≡ any m f) (le-antisymm a b) (sym h)
+pub any-ends : {k : ℕ} (n : ℕ) (f : ℕ → Bool) → any k f ≡ false → k ≤ n → n ≤ k → false ≡ any n f
+any-ends n f h a b = subst (λ (m : ℕ). false ≡ any m f) (le-antisymm a b) (sym h)
 
 pub ruleset any-loop = (any-start, any-more, any-left, any-ends)

@@ -1,7 +1,7 @@
 -- Readings and lines. A line is absent, Nil (blank) or a reading.
 use Prim.Native.Nat.{ℕ}
 use lib.Dec.{leb, eqb}
-use mathlib.Core.Bool.{Bool, true, false, _&&_}
+use mathlib.Core.Bool.{Bool, true, false, _&&_, _||_}
 use Rattle.pages.specs.declared.line.Reading
 use Rattle.pages.specs.declared.line.Mark.{Mark}
 use Rattle.pages.specs.declared.line.Mark.the-variants.{Absent, Nil, Reading as reads}
@@ -34,11 +34,6 @@ holds Absent r = false
 holds Nil r = false
 holds (reads s) r = sameReading s r
 
-abbrev pub sameMark : Mark → Mark → Bool
-sameMark Absent b = isAbsent b
-sameMark Nil b = isNil b
-sameMark (reads r) b = holds b r
-
 -- a reading on the line is in range
 abbrev pub markInRange : Mark → Bool
 markInRange Absent = true
@@ -59,6 +54,4 @@ prefixMark (reads r) b = holds b r
 
 -- lines present in both are equal
 abbrev pub compatibleMark : Mark → Mark → Bool
-compatibleMark Absent b = true
-compatibleMark Nil b = prefixMark b Nil
-compatibleMark (reads r) b = prefixMark b (reads r)
+compatibleMark a b = isAbsent a || prefixMark b a

@@ -13,5 +13,8 @@ pub use line::Mark;
 pub use line::Reading;
 pub use page::Page;
 pub use page::Vote;
+pub use racks::RACKS;
+pub use racks::below_all;
 pub use racks::has;
+pub use racks::is_outside;
 pub use racks::outside;

@@ -1,7 +1,7 @@
 // Readings and lines.
 ghost use mathlib.Core.Path.{_≡_};
-ghost use mathlib.Core.Bool.{true, false};
-ghost use Rattle.pages.specs.Lines.{readingInRange, sameReading, isAbsent, isNil, isReading, holds, sameMark, markInRange, appendMark, prefixMark, compatibleMark};
+ghost use mathlib.Core.Bool.{cond, not, _&&_, _||_};
+ghost use Rattle.pages.specs.Lines.{readingInRange, sameReading, isAbsent, isNil, isReading, holds, markInRange, appendMark, prefixMark, compatibleMark};
 
 // What a rack read from a headset: headset × 65,536 + dose in tenths of a percent.
 pub struct Reading(pub u32);
@@ -25,7 +25,7 @@ impl Reading {
     pub fn in_range(self) -> bool
         ensures { λ r. ⌜ r ≡ readingInRange self ⌝ }
     {
-        self.0 >= 65536 && self.0 <= 4294967295
+        self.0 >= Reading::SMALLEST && self.0 <= Reading::LARGEST
     }
 
     pub fn same(self, other: Reading) -> bool
@@ -35,11 +35,12 @@ impl Reading {
     }
 }
 
-impl Mark {
+impl Line {
     pub fn is_absent(self) -> bool
-        ensures { λ r. ⌜ r ≡ isAbsent self ⌝ }
+        ensures { λ r. ⌜ r ≡ isAbsent (self .mark) ⌝ }
     {
-        match self {
+        let mark = self.mark;
+        match mark {
             Mark::Absent => true,
             Mark::Nil => false,
             Mark::Reading(_) => false,
@@ -47,9 +48,10 @@ impl Mark {
     }
 
     pub fn is_nil(self) -> bool
-        ensures { λ r. ⌜ r ≡ isNil self ⌝ }
+        ensures { λ r. ⌜ r ≡ isNil (self .mark) ⌝ }
     {
-        match self {
+        let mark = self.mark;
+        match mark {
             Mark::Absent => false,
             Mark::Nil => true,
             Mark::Reading(_) => false,
@@ -57,9 +59,10 @@ impl Mark {
     }
 
     pub fn is_reading(self) -> bool
-        ensures { λ r. ⌜ r ≡ isReading self ⌝ }
+        ensures { λ r. ⌜ r ≡ isReading (self .mark) ⌝ }
     {
-        match self {
+        let mark = self.mark;
+        match mark {
             Mark::Absent => false,
             Mark::Nil => false,
             Mark::Reading(_) => true,
@@ -67,62 +70,89 @@ impl Mark {
     }
 
     pub fn holds(self, reading: Reading) -> bool
-        ensures { λ r. ⌜ r ≡ holds self reading ⌝ }
+        ensures { λ r. ⌜ r ≡ holds (self .mark) reading ⌝ }
     {
-        match self {
+        let mark = self.mark;
+        match mark {
             Mark::Absent => false,
             Mark::Nil => false,
             Mark::Reading(mine) => mine.same(reading),
         }
     }
 
-    pub fn same(self, other: Mark) -> bool
-        ensures { λ r. ⌜ r ≡ sameMark self other ⌝ }
-    {
-        match self {
-            Mark::Absent => other.is_absent(),
-            Mark::Nil => other.is_nil(),
-            Mark::Reading(mine) => other.holds(mine),
-        }
-    }
-
+    // Absent and Nil are in range; a reading as readings are.
     pub fn in_range(self) -> bool
-        ensures { λ r. ⌜ r ≡ markInRange self ⌝ }
+        ensures { λ r. ⌜ r ≡ markInRange (self .mark) ⌝ }
     {
-        match self {
+        let mark = self.mark;
+        match mark {
             Mark::Absent => true,
             Mark::Nil => true,
             Mark::Reading(mine) => mine.in_range(),
         }
     }
 
-    pub fn append(self, other: Mark) -> Mark
-        ensures { λ r. ⌜ r ≡ appendMark self other ⌝ }
+    pub fn append(self, other: Line) -> Line
+        ensures { λ r. ⌜ r .mark ≡ appendMark (self .mark) (other .mark) ⌝ }
     {
-        match self {
+        let mark = self.mark;
+        match mark {
             Mark::Absent => other,
-            Mark::Nil => Mark::Nil,
-            Mark::Reading(mine) => Mark::Reading(mine),
+            Mark::Nil => self,
+            Mark::Reading(_) => self,
         }
     }
 
-    pub fn prefix_of(self, other: Mark) -> bool
-        ensures { λ r. ⌜ r ≡ prefixMark self other ⌝ }
+    // Appended where that is asked for, else as it is.
+    pub fn append_if(self, yes: bool, other: Line) -> Line
+        ensures { λ r. ⌜ r .mark ≡ cond yes (appendMark (self .mark) (other .mark)) (self .mark) ⌝ }
     {
-        match self {
+        if yes { self.append(other) } else { self }
+    }
+
+    pub fn prefix_of(self, other: Line) -> bool
+        ensures { λ r. ⌜ r ≡ prefixMark (self .mark) (other .mark) ⌝ }
+    {
+        let mark = self.mark;
+        match mark {
             Mark::Absent => true,
             Mark::Nil => other.is_nil(),
             Mark::Reading(mine) => other.holds(mine),
         }
     }
 
-    pub fn compatible(self, other: Mark) -> bool
-        ensures { λ r. ⌜ r ≡ compatibleMark self other ⌝ }
+    pub fn compatible(self, other: Line) -> bool
+        ensures { λ r. ⌜ r ≡ compatibleMark (self .mark) (other .mark) ⌝ }
     {
-        match self {
-            Mark::Absent => true,
-            Mark::Nil => other.prefix_of(Mark::Nil),
-            Mark::Reading(mine) => other.prefix_of(Mark::Reading(mine)),
+        if self.is_absent() {
+            true
+        } else {
+            other.prefix_of(self)
+        }
+    }
+
+    // Of a rack of the set the line is there.
+    pub fn present_if(self, member: bool) -> bool
+        ensures { λ r. ⌜ r ≡ not (member && isAbsent (self .mark)) ⌝ }
+    {
+        if member { !self.is_absent() } else { true }
+    }
+
+    // Of a rack of the set the line is Nil.
+    pub fn nil_if(self, member: bool) -> bool
+        ensures { λ r. ⌜ r ≡ not member || isNil (self .mark) ⌝ }
+    {
+        if member { self.is_nil() } else { true }
+    }
+
+    // Of a rack outside the set the line is absent, and a reading is in range.
+    pub fn within_if(self, member: bool) -> bool
+        ensures { λ r. ⌜ r ≡ (member || isAbsent (self .mark)) && markInRange (self .mark) ⌝ }
+    {
+        if member {
+            self.in_range()
+        } else {
+            self.is_absent()
         }
     }
 }
