@@ -52,6 +52,10 @@ openRules s p =
     pageRules s p &&
     (emptyOf p || completeOf (racksBelow (s .racks)) p && valuedOf p)
 
+-- what a round was opened with, if it was
+unfoldable pub openedRules : Setup → Vote → Bool
+openedRules s v = cond (v .some) (openRules s (v .page)) (emptyOf (v .page))
+
 -- a last vote: its round is in range, and Zero where there is none
 unfoldable pub lastRules : Setup → Round → Vote → Bool
 lastRules s vrnd v =
@@ -74,14 +78,18 @@ unfoldable pub nothingHeld : Held → Bool
 nothingHeld h = sameRound (h .round) noRound && emptyOf (h .page)
 
 -- a slot of a box: only of one that exists, only in a round that was started, and below it
-unfoldable pub heardRules : Setup → Round → ℕ → Heard → Bool
-heardRules s crnd box h =
-    cond (h .filled)
-    (ltb box (s .boxes) &&
+unfoldable pub filledHeard : Setup → Round → ℕ → Heard → Bool
+filledHeard s crnd box h =
+    ltb box (s .boxes) &&
     not (sameRound crnd (zeroOf s)) &&
     lastRules s (h .vrnd) (h .vote) &&
-    isBelow (orderOf (h .vrnd) crnd))
-    (nothingHeard h)
+    isBelow (orderOf (h .vrnd) crnd)
+
+unfoldable pub heardRules : Setup → Round → ℕ → Heard → Bool
+heardRules s crnd box h = cond (h .filled) (filledHeard s crnd box h) (nothingHeard h)
+
+unfoldable pub allHeard : Setup → CoordinatorRow → Bool
+allHeard s r = all mostBoxes (λ box. heardRules s (r .crnd) box (heardAt r box))
 
 -- a held page is valued
 unfoldable pub heldRules : Setup → ℕ → Held → Bool
@@ -99,6 +107,12 @@ blankRules s rack b =
     (ltb rack (s .racks) &&
     roundInRange s (b .round))
     (sameRound (b .round) noRound)
+
+unfoldable pub allHeld : Setup → ReaderRow → Bool
+allHeld s r = all mostBoxes (λ box. heldRules s box (heldAt r box))
+
+unfoldable pub allBlanks : Setup → ReaderRow → Bool
+allBlanks s r = all mostRacks (λ rack. blankRules s rack (blankAt r rack))
 
 -- 1 PROPOSE
 unfoldable pub proposeRules : Setup → ℕ → Propose → Bool
@@ -145,8 +159,8 @@ unfoldable pub coordinatorRules : Setup → ℕ → CoordinatorRow → Bool
 coordinatorRules s agent r =
     roundInRange s (r .crnd) &&
     (sameRound (r .crnd) (zeroOf s) || eqb (r .crnd .c) agent) &&
-    cond (r .cval .some) (openRules s (r .cval .page)) (emptyOf (r .cval .page)) &&
-    all mostBoxes (λ box. heardRules s (r .crnd) box (heardAt r box))
+    openedRules s (r .cval) &&
+    allHeard s r
 
 -- 18 box
 unfoldable pub boxRules : Setup → ℕ → BoxRow → Bool
@@ -166,5 +180,5 @@ unfoldable pub readerRules : Setup → ℕ → ReaderRow → Bool
 readerRules s agent r =
     pageRules s (r .page) &&
     not (trivialOf (racksBelow (s .racks)) (r .page)) &&
-    all mostBoxes (λ box. heldRules s box (heldAt r box)) &&
-    all mostRacks (λ rack. blankRules s rack (blankAt r rack))
+    allHeld s r &&
+    allBlanks s r
