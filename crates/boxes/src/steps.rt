@@ -1,0 +1,1 @@
+// Join, take page and take reading.
