@@ -1,0 +1,4 @@
+pub mod History
+pub mod Sound
+pub mod Moves
+pub mod Reports
