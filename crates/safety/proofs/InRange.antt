@@ -1,0 +1,83 @@
+-- What the rules say of rounds: they are in range, so that c is below 4 and their order is that of their numbers.
+use Prim.Native.Nat.{ℕ, _≤_, _<_}
+use native.Mathlib.Omega.{arith}
+use mathlib.Core.Path.{_≡_}
+use mathlib.Core.Bool.{true}
+use mathlib.Core.Logic.{_⊎_, inl, inr, ⊎-elim}
+use borrow.Author.Tests.{ltb-true, leb-true}
+use Rattle.below.proofs.Tests.{and-left, and-right}
+use Rattle.pages.specs.Racks.{has}
+use Rattle.rounds.specs.declared.setup.Setup.{Setup}
+use Rattle.rounds.specs.declared.round.Round.{Round}
+use Rattle.rounds.specs.Setups.{setupInRange, mostRacks, mostBoxes, mostCoordinators}
+use Rattle.rounds.specs.Rounds.{roundInRange}
+use Rattle.rounds.proofs.Ordered.{key, Lower, lower-key, range-coordinator}
+use Rattle.records.specs.declared.messages.OneA.{OneA}
+use Rattle.records.specs.declared.messages.TwoS.{TwoS}
+use Rattle.records.specs.declared.messages.TwoA.{TwoA}
+use Rattle.records.specs.declared.rows.BoxRow.{BoxRow}
+use Rattle.records.specs.declared.rows.RackRow.{RackRow}
+use Rattle.records.specs.Rules.{ownRules, lastRules, oneARules, twoSRules, twoARules, boxRules, rackRules}
+
+-- the parts of a setup's range
+pub record SetupParts (s : Setup) : Type 0 where
+  pub some-rack : 0 < s .racks
+  pub racks : s .racks ≤ mostRacks
+  pub boxes : s .boxes ≤ mostBoxes
+  pub coordinators : s .coordinators ≤ mostCoordinators
+
+pub setup-parts : (s : Setup) → setupInRange s ≡ true → SetupParts s
+unfolding setupInRange
+setup-parts s h =
+    record {
+      some-rack = ltb-true _ _ (and-left _ _ (and-left _ _ h));
+      racks = leb-true _ _ (and-right _ _ (and-left _ _ h));
+      boxes = leb-true _ _ (and-right _ _ (and-left _ _ (and-right _ _ h)));
+      coordinators = leb-true _ _ (and-right _ _ (and-left _ _ (and-right _ _ (and-right _ _ h))));
+    }
+
+module _ (s : Setup) (good : setupInRange s ≡ true) where
+  pub small-coordinator : (c : ℕ) → c < s .coordinators → c < 4
+  small-coordinator c l = omega (arith, setup-parts s good .coordinators)
+
+  -- a round in range
+  pub small : (r : Round) → roundInRange s r ≡ true → r .c < 4
+  small r h = small-coordinator (r .c) (range-coordinator s r h)
+
+  pub lower-number : (a b : Round) → roundInRange s a ≡ true → roundInRange s b ≡ true → Lower a b → key a < key b
+  lower-number a b p q = lower-key a b (small a p) (small b q)
+
+-- the rounds of rows and messages
+module _ (s : Setup) (agent : ℕ) where
+  own-range : (r : Round) → ownRules s agent r ≡ true → roundInRange s r ≡ true
+  unfolding ownRules
+  own-range r h = and-left _ _ (and-left _ _ h)
+
+  pub oneA-range : (m : OneA) → oneARules s agent m ≡ true → roundInRange s (m .round) ≡ true
+  unfolding oneARules
+  oneA-range m h = own-range (m .round) h
+
+  pub twoS-range : (m : TwoS) → twoSRules s agent m ≡ true → roundInRange s (m .round) ≡ true
+  unfolding twoSRules
+  twoS-range m h = own-range (m .round) (and-left _ _ h)
+
+  pub twoA-range : (m : TwoA) → twoARules s agent m ≡ true → roundInRange s (m .round) ≡ true
+  unfolding twoARules
+  twoA-range m h = and-left _ _ (and-left _ _ (and-left _ _ h))
+
+  -- a 2A rack is in cf
+  pub twoA-in-cf : (m : TwoA) → twoARules s agent m ≡ true → has (m .round .cf) agent ≡ true
+  unfolding twoARules
+  twoA-in-cf m h = and-right _ _ (and-left _ _ h)
+
+  pub rack-range : (r : RackRow) → rackRules s agent r ≡ true → roundInRange s (r .prnd) ≡ true
+  unfolding rackRules
+  rack-range r h = and-left _ _ h
+
+  pub rnd-range : (r : BoxRow) → boxRules s agent r ≡ true → roundInRange s (r .rnd) ≡ true
+  unfolding boxRules
+  rnd-range r h = and-left _ _ (and-left _ _ h)
+
+  pub vrnd-range : (r : BoxRow) → boxRules s agent r ≡ true → roundInRange s (r .vrnd) ≡ true
+  unfolding boxRules lastRules
+  vrnd-range r h = and-left _ _ (and-left _ _ (and-right _ _ (and-left _ _ h)))

@@ -1,0 +1,5 @@
+pub mod Messages
+pub mod Rows
+pub mod Moved
+pub mod InRange
+pub mod RackSteps
