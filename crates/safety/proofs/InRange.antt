@@ -2,16 +2,20 @@
 use Prim.Native.Nat.{ℕ, _≤_, _<_}
 use native.Mathlib.Omega.{arith}
 use mathlib.Core.Path.{_≡_}
-use mathlib.Core.Bool.{true}
-use mathlib.Core.Logic.{_⊎_, inl, inr, ⊎-elim}
+use lib.Dec.{ltb}
+use mathlib.Core.Bool.{true, false, _&&_, true≢false}
 use borrow.Author.Tests.{ltb-true, leb-true}
 use Rattle.below.proofs.Tests.{and-left, and-right}
+use Rattle.pages.specs.declared.page.Vote.{Vote}
+use Rattle.pages.specs.Lines.{markInRange}
 use Rattle.pages.specs.Racks.{has}
 use Rattle.rounds.specs.declared.setup.Setup.{Setup}
 use Rattle.rounds.specs.declared.round.Round.{Round}
-use Rattle.rounds.specs.Setups.{setupInRange, mostRacks, mostBoxes, mostCoordinators}
-use Rattle.rounds.specs.Rounds.{roundInRange}
-use Rattle.rounds.proofs.Ordered.{key, Lower, lower-key, range-coordinator}
+use Rattle.rounds.specs.Setups.{setupInRange, oneTo, mostRacks, mostBoxes, mostCoordinators}
+use Rattle.rounds.specs.declared.order.Order.{Order}
+use Rattle.rounds.specs.declared.order.Order.the-variants.{Below, Equal, Above, Clash}
+use Rattle.rounds.specs.Rounds.{roundInRange, orderOf, isClash}
+use Rattle.rounds.proofs.Ordered.{key, Lower, Compared, compared, lower-key, range-coordinator}
 use Rattle.records.specs.declared.messages.OneA.{OneA}
 use Rattle.records.specs.declared.messages.TwoS.{TwoS}
 use Rattle.records.specs.declared.messages.TwoA.{TwoA}
@@ -29,11 +33,15 @@ pub record SetupParts (s : Setup) : Type 0 where
 pub setup-parts : (s : Setup) → setupInRange s ≡ true → SetupParts s
 unfolding setupInRange
 setup-parts s h =
+    let racks = and-left (oneTo mostRacks (s .racks)) _ h in
+    let later = and-right (oneTo mostRacks (s .racks)) _ h in
+    let boxes = and-left (oneTo mostBoxes (s .boxes)) _ later in
+    let coordinators = and-left (oneTo mostCoordinators (s .coordinators)) _ (and-right (oneTo mostBoxes (s .boxes)) _ later) in
     record {
-      some-rack = ltb-true _ _ (and-left _ _ (and-left _ _ h));
-      racks = leb-true _ _ (and-right _ _ (and-left _ _ h));
-      boxes = leb-true _ _ (and-right _ _ (and-left _ _ (and-right _ _ h)));
-      coordinators = leb-true _ _ (and-right _ _ (and-left _ _ (and-right _ _ (and-right _ _ h))));
+      some-rack = ltb-true _ _ (and-left (ltb 0 (s .racks)) _ racks);
+      racks = leb-true _ _ (and-right (ltb 0 (s .racks)) _ racks);
+      boxes = leb-true _ _ (and-right (ltb 0 (s .boxes)) _ boxes);
+      coordinators = leb-true _ _ (and-right (ltb 0 (s .coordinators)) _ coordinators);
     }
 
 module _ (s : Setup) (good : setupInRange s ≡ true) where
@@ -47,11 +55,25 @@ module _ (s : Setup) (good : setupInRange s ≡ true) where
   pub lower-number : (a b : Round) → roundInRange s a ≡ true → roundInRange s b ≡ true → Lower a b → key a < key b
   lower-number a b p q = lower-key a b (small a p) (small b q)
 
+  -- two rounds of one number that don't clash are equal
+  pub same-number : (a b : Round) → roundInRange s a ≡ true → roundInRange s b ≡ true → key a ≡ key b → isClash (orderOf a b) ≡ false → a ≡ b
+  same-number a b p q e h = go (orderOf a b) (compared a b) h
+    where
+      go : (o : Order) → Compared a b o → isClash o ≡ false → a ≡ b
+      go Below l h = absurd (omega (arith, lower-number a b p q l))
+      go Equal d h = d
+      go Above l h = absurd (omega (arith, lower-number b a q p l))
+      go Clash d h = absurd (true≢false h)
+
 -- the rounds of rows and messages
 module _ (s : Setup) (agent : ℕ) where
   own-range : (r : Round) → ownRules s agent r ≡ true → roundInRange s r ≡ true
   unfolding ownRules
   own-range r h = and-left _ _ (and-left _ _ h)
+
+  last-range : (r : Round) (v : Vote) → lastRules s r v ≡ true → roundInRange s r ≡ true
+  unfolding lastRules
+  last-range r v h = and-left _ _ (and-left _ _ h)
 
   pub oneA-range : (m : OneA) → oneARules s agent m ≡ true → roundInRange s (m .round) ≡ true
   unfolding oneARules
@@ -68,7 +90,7 @@ module _ (s : Setup) (agent : ℕ) where
   -- a 2A rack is in cf
   pub twoA-in-cf : (m : TwoA) → twoARules s agent m ≡ true → has (m .round .cf) agent ≡ true
   unfolding twoARules
-  twoA-in-cf m h = and-right _ _ (and-left _ _ h)
+  twoA-in-cf m h = and-right (roundInRange s (m .round) && markInRange (m .line .mark)) _ (and-left _ _ h)
 
   pub rack-range : (r : RackRow) → rackRules s agent r ≡ true → roundInRange s (r .prnd) ≡ true
   unfolding rackRules
@@ -79,5 +101,5 @@ module _ (s : Setup) (agent : ℕ) where
   rnd-range r h = and-left _ _ (and-left _ _ h)
 
   pub vrnd-range : (r : BoxRow) → boxRules s agent r ≡ true → roundInRange s (r .vrnd) ≡ true
-  unfolding boxRules lastRules
-  vrnd-range r h = and-left _ _ (and-left _ _ (and-right _ _ (and-left _ _ h)))
+  unfolding boxRules
+  vrnd-range r h = last-range (r .vrnd) (r .vval) (and-right (roundInRange s (r .rnd)) _ (and-left _ _ h))

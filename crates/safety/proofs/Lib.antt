@@ -3,3 +3,4 @@ pub mod Rows
 pub mod Moved
 pub mod InRange
 pub mod RackSteps
+pub mod BoxSteps

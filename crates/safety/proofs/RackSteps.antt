@@ -33,7 +33,7 @@ use Rattle.safety.proofs.Rows.{RackTrue}
 use Rattle.safety.proofs.Moved.{rack, SoundHall, Stepped, Silent, still}
 use Rattle.safety.proofs.InRange.{lower-number, rack-range, twoS-range}
 
-module _ {s : Setup} {H : History} (S : SoundHall s H) (k : ℕ) (row : RackRow) (t : RackTrue H k row) where
+module _ (s : Setup) {H : History} (S : SoundHall s H) (k : ℕ) (row : RackRow) (t : RackTrue H k row) where
   -- step 1
   pub offer-moves : (reading : Reading) →
       Stepped s (rack k) (record { rack = k; reading = reading } ∷ H .offers) H (λ H. RackTrue H k row) (λ H. Says H (propose k (offerOf reading)))
@@ -73,9 +73,9 @@ module _ {s : Setup} {H : History} (S : SoundHall s H) (k : ℕ) (row : RackRow)
           let w : Whole (s .racks) (H .offers) (m .page) = subst (Grounded (s .racks) (H .offers)) (x .fixed-opened e) (S .grounded (key (m .round))) in
           absent-or-present a (w .complete k low)
 
-      open : (b : Bool) → emptyOf (m .page) ≡ b → cond b Absent (at (m .page) k) ≡ Absent → H .opened (key (m .round)) ≡ free (m .round .cf)
-      open true e a = x .free-opened e
-      open false e a = absurd (no-page e a)
+      opened : (b : Bool) → emptyOf (m .page) ≡ b → cond b Absent (at (m .page) k) ≡ Absent → H .opened (key (m .round)) ≡ free (m .round .cf)
+      opened true e a = x .free-opened e
+      opened false e a = absurd (no-page e a)
 
       prepared : RackTrue H k (prepareOf k row m .row)
       prepared =
@@ -85,7 +85,7 @@ module _ {s : Setup} {H : History} (S : SoundHall s H) (k : ℕ) (row : RackRow)
             opened =
                 λ e.
                 subst (λ (r : Round). H .opened (key r) ≡ free (r .cf)) (sym (facts .prnd-is))
-                (open (emptyOf (m .page)) refl (sym (facts .pval-is) ∙ e));
+                (opened (emptyOf (m .page)) refl (sym (facts .pval-is) ∙ e));
           }
 
   -- a rack with no pval speaks, once, in its round
