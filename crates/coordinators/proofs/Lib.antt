@@ -1,0 +1,2 @@
+pub mod JoinedVotes
+pub mod HighestVote
