@@ -1,3 +1,5 @@
 pub mod Tests
 pub mod Rows
 pub mod Counts
+pub mod Unique
+pub mod Joins

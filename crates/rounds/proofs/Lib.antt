@@ -1,1 +1,4 @@
 pub mod Tested
+pub mod Ordered
+pub mod Majorities
+pub mod Unique

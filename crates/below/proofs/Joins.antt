@@ -1,0 +1,13 @@
+-- Each public contract of this crate determines its answer.
+use mathlib.Core.Path.{sym, _∙_}
+use Rattle.below.proofs.Unique.{Determines}
+use Rattle.below.proofs.both.Kinds as both-kinds
+use Rattle.below.proofs.both.Reads as both
+use Rattle.below.proofs.either.Kinds as either-kinds
+use Rattle.below.proofs.either.Reads as either
+
+pub both-unique : Determines 0 both-kinds.ps both-kinds.r both.Post
+both-unique κs a x y s t p q = p ∙ sym q
+
+pub either-unique : Determines 0 either-kinds.ps either-kinds.r either.Post
+either-unique κs a x y s t p q = p ∙ sym q

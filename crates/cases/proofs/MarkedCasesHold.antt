@@ -1,0 +1,10 @@
+-- Every marked case holds.
+use Prim.Native.Nat.{ℕ}
+use mathlib.Core.Path.{_≡_, refl}
+use mathlib.Core.Bool.{true}
+use Rattle.rounds.specs.Rounds.{orderOf}
+use Rattle.cases.specs.Table.{roundCases, majorityCases, table, allHold}
+
+pub marked-cases-hold : (c0 cf0 cf : ℕ) → allHold (table c0 cf0 cf) ≡ true
+unfolding table roundCases majorityCases orderOf
+marked-cases-hold c0 cf0 cf = refl
