@@ -2,7 +2,7 @@
 use Prim.Native.Nat.{ℕ, _<_}
 use native.Mathlib.Omega.{arith}
 use lib.Dec.{eqb}
-use borrow.Author.Tests.{eq-eqb, ne-eqb}
+use borrow.Author.Tests.{eqb-true, eq-eqb, ne-eqb}
 use mathlib.Core.Path.{_≡_, refl, sym, subst, _∙_}
 use mathlib.Core.Bool.{Bool, true, false, cond}
 use Rattle.below.specs.Refusals.{unless, granted}
@@ -23,6 +23,15 @@ module _ {A : Type 0} where
 
   pub answer-refused : (number : ℕ) (done kept : A) → (number ≡ granted → ⊥) → cond (eqb number granted) done kept ≡ kept
   answer-refused number done kept h = rw (ne-eqb number granted h)
+
+  -- the number that a step answers is that of its refusal
+  pub answer-number : (number-of : A → ℕ) (number : ℕ) (done kept : A) → number-of done ≡ granted → number-of kept ≡ number →
+      number-of (cond (eqb number granted) done kept) ≡ number
+  answer-number number-of number done kept p q = go (eqb number granted) refl
+    where
+      go : (b : Bool) → eqb number granted ≡ b → number-of (cond b done kept) ≡ number
+      go true e = p ∙ sym (eqb-true number granted e)
+      go false e = q
 
   -- the ways through a step: `number` is what the code found, `right` what the definition says
   pub way-granted : {number right : ℕ} {z done : A} (kept : A) → number ≡ right → number ≡ granted → z ≡ done → z ≡ cond (eqb right granted) done kept
