@@ -2,7 +2,7 @@
 use Prim.Native.Nat.{ℕ}
 use native.Mathlib.Omega.{arith}
 use mathlib.Core.Path.{_≡_, refl, sym, ap, _∙_}
-use mathlib.Core.Bool.{true, cond, _&&_}
+use mathlib.Core.Bool.{Bool, true, cond, _&&_}
 use Rattle.below.specs.Refusals.{unless, granted, wrongMessage, wrongRound, alreadyDone}
 use Rattle.below.proofs.Granted.{unless-held, unless-later, answer-granted, answer-refused, answer-number}
 use Rattle.below.proofs.Tests.{and-left, and-right}
@@ -110,7 +110,7 @@ blank-granted agent row m h =
       reading = reading-is (m .line .mark) (unless-held (isReading (m .line .mark)) wrongMessage rest (omega arith) number);
       same = equal-is (m .round) (row .prnd) (and-left _ (has (row .prnd .cf) agent) fits);
       in-cf = and-right (isEqual (orderOf (m .round) (row .prnd))) _ fits;
-      silent = absent-is (row .pval .mark) (unless-held _ alreadyDone granted (omega arith) (unless-later _ wrongRound later (omega arith) number'));
+      silent = absent-is (row .pval .mark) (unless-held _ alreadyDone granted (omega arith) (unless-later fitting wrongRound later (omega arith) number'));
       row-is = ap (λ (a : Spoken). a .row) answer;
       sent-is = ap (λ (a : Spoken). a .sent) answer;
     }
@@ -118,8 +118,11 @@ blank-granted agent row m h =
     later : ℕ
     later = unless (isAbsent (row .pval .mark)) alreadyDone granted
 
+    fitting : Bool
+    fitting = isEqual (orderOf (m .round) (row .prnd)) && has (row .prnd .cf) agent
+
     rest : ℕ
-    rest = unless (isEqual (orderOf (m .round) (row .prnd)) && has (row .prnd .cf) agent) wrongRound later
+    rest = unless fitting wrongRound later
 
     number : blankRefusal agent row m ≡ granted
     number = spoken-number (blankRefusal agent row m) row _ _ h
@@ -127,8 +130,8 @@ blank-granted agent row m h =
     number' : rest ≡ granted
     number' = unless-later (isReading (m .line .mark)) wrongMessage rest (omega arith) number
 
-    fits : isEqual (orderOf (m .round) (row .prnd)) && has (row .prnd .cf) agent ≡ true
-    fits = unless-held _ wrongRound later (omega arith) number'
+    fits : fitting ≡ true
+    fits = unless-held fitting wrongRound later (omega arith) number'
 
     answer : blankOf agent row m ≡ record { refusal = granted; row = said row Nil; sent = saying row Nil }
     answer = spoken-granted (blankRefusal agent row m) row _ _ number
