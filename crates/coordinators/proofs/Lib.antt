@@ -1,1 +1,4 @@
 pub mod Slots
+pub mod HighestVote
+pub mod JoinedVotes
+pub mod Unique
