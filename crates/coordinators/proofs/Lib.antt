@@ -5,3 +5,4 @@ pub mod GrantedSteps
 pub mod OpenPage
 pub mod RulesKept
 pub mod Unique
+pub mod CasesOfOpen
