@@ -30,40 +30,43 @@ module _ (votes : ℕ → Bool) (rounds : ℕ → Round) where
   next n v (t, top) = go (isBelow (orderOf (rounds t) (rounds n))) refl
     where
       go : (b : Bool) → isBelow (orderOf (rounds t) (rounds n)) ≡ b → (t : ℕ) × Top votes rounds (suc n) t
-      go true e =
-          (n,
-           record {
-             below = omega arith;
-             vote = v;
-             highest =
-               λ b l w h.
-               ⊎-elim (λ q. lower-irrefl (rounds n) (subst (λ (x : ℕ). Lower (rounds n) (rounds x)) q h))
-               (λ m. top .highest b m w (lower-trans (rounds t) (rounds n) (rounds b) (below-is (rounds t) (rounds n) e) h)) (below-suc l)
-           })
-      go false e =
-          (t,
-           record {
-             below = omega (arith, top .below);
-             vote = top .vote;
-             highest =
-               λ b l w h.
-               ⊎-elim
-               (λ q.
-               true≢false
-               (sym (ap isBelow (lower-below (rounds t) (rounds n) (subst (λ (x : ℕ). Lower (rounds t) (rounds x)) q h))) ∙ e))
-               (λ m. top .highest b m w h) (below-suc l)
-           })
+      go true e = (
+        n,
+        record {
+          below = omega arith;
+          vote = v;
+          highest =
+              λ b l w h.
+              ⊎-elim (λ q. lower-irrefl (rounds n) (subst (λ (x : ℕ). Lower (rounds n) (rounds x)) q h))
+              (λ m. top .highest b m w (lower-trans (rounds t) (rounds n) (rounds b) (below-is (rounds t) (rounds n) e) h)) (below-suc l);
+        },
+      )
+      go false e = (
+        t,
+        record {
+          below = omega (arith, top .below);
+          vote = top .vote;
+          highest =
+              λ b l w h.
+              ⊎-elim
+              (λ q.
+              true≢false
+              (sym (ap isBelow (lower-below (rounds t) (rounds n) (subst (λ (x : ℕ). Lower (rounds t) (rounds x)) q h))) ∙ e))
+              (λ m. top .highest b m w h) (below-suc l);
+        },
+      )
 
   -- no vote more
   same : (n : ℕ) → votes n ≡ false → (t : ℕ) × Top votes rounds n t → (t : ℕ) × Top votes rounds (suc n) t
-  same n v (t, top) =
-      (t,
-       record {
-         below = omega (arith, top .below);
-         vote = top .vote;
-         highest =
-           λ b l w h. ⊎-elim (λ q. true≢false (sym w ∙ ap votes q ∙ v)) (λ m. top .highest b m w h) (below-suc l)
-       })
+  same n v (t, top) = (
+    t,
+    record {
+      below = omega (arith, top .below);
+      vote = top .vote;
+      highest =
+          λ b l w h. ⊎-elim (λ q. true≢false (sym w ∙ ap votes q ∙ v)) (λ m. top .highest b m w h) (below-suc l);
+    },
+  )
 
   -- the only vote
   alone : (n : ℕ) → votes n ≡ true → any n votes ≡ false → Top votes rounds (suc n) n
@@ -72,9 +75,9 @@ module _ (votes : ℕ → Bool) (rounds : ℕ → Round) where
         below = omega arith;
         vote = v;
         highest =
-          λ b l w h.
-          ⊎-elim (λ q. lower-irrefl (rounds n) (subst (λ (x : ℕ). Lower (rounds n) (rounds x)) q h))
-          (λ m. true≢false (sym w ∙ any-none n votes e b m)) (below-suc l)
+            λ b l w h.
+            ⊎-elim (λ q. lower-irrefl (rounds n) (subst (λ (x : ℕ). Lower (rounds n) (rounds x)) q h))
+            (λ m. true≢false (sym w ∙ any-none n votes e b m)) (below-suc l);
       }
 
   pub top-exists : (n : ℕ) → any n votes ≡ true → (t : ℕ) × Top votes rounds n t

@@ -15,6 +15,7 @@ use Rattle.pages.specs.Pages.{at, empty, some, none, prefixOf, compatibleOf, un
 use Rattle.pages.proofs.Lines.{append-absent, append-present}
 use Rattle.pages.proofs.Algebra as A
 use Rattle.pages.proofs.PageLaws.{at-empty, at-union, join-some, join-none, union-left, union-right, prefix-of-trans, prefix-lines, lines-compatible, compatible-lines}
+use Rattle.pages.proofs.Kept.{empty-within, union-within}
 use Rattle.coordinators.specs.Steps.{joinMore, joinVotes}
 
 -- one vote more: not taken, taken and joined, or not compatible with those before
@@ -121,11 +122,16 @@ module _ (takes : ℕ → Bool) (pages : ℕ → Page) where
               none-there a = absurd (true≢false (sym (absent-fits (at before k) (at (pages n) k) a) ∙ d))
 
               one-there : Taking n (λ b. at (pages b) k ≡ at before k) → Clash (suc n)
-              one-there (b, m, (t, q)) =
-                  (b, n, (omega arith, omega arith),
-                   ((t, u),
-                    not-true-false _
-                    (λ c. true≢false (sym (compatible-lines (pages b) (pages n) c k l) ∙ ap (λ (x : Mark). compatibleMark x (at (pages n) k)) q ∙ d))))
+              one-there (b, m, (t, q)) = (
+                b,
+                n,
+                (omega arith, omega arith),
+                (
+                  (t, u),
+                  not-true-false _
+                      (λ c. true≢false (sym (compatible-lines (pages b) (pages n) c k l) ∙ ap (λ (x : Mark). compatibleMark x (at (pages n) k)) q ∙ d)),
+                ),
+              )
 
       go : {w : Vote} → (joinVotes takes pages n .some ≡ false → Clash n) → Joining (takes n) (pages n) (joinVotes takes pages n) w → w .some ≡ false → Clash (suc n)
       go ih (left-out e) s = higher-up (ih s)
@@ -139,3 +145,14 @@ module _ (takes : ℕ → Bool) (pages : ℕ → Page) where
       lines-compatible (pages a) (pages b)
       (A.compatible-iff-bounded mostRacks (at (pages a)) (at (pages b)) .1
       (at (joinVotes takes pages n .page), prefix-lines (pages a) _ (joined-above n h a l t), prefix-lines (pages b) _ (joined-above n h b m u)))
+
+  -- the join has lines of the hall's racks alone if the pages have
+  pub joined-within : (set : ℕ → Bool) (n : ℕ) → ((b : ℕ) → b < n → takes b ≡ true → withinOf set (pages b) ≡ true) → withinOf set (joinVotes takes pages n .page) ≡ true
+  unfolding joinVotes
+  joined-within set zero h = empty-within set
+  joined-within set (suc n) h = go (joined-within set n (λ b l. h b (omega arith))) (joining (takes n) (pages n) (joinVotes takes pages n))
+    where
+      go : {w : Vote} → withinOf set (joinVotes takes pages n .page) ≡ true → Joining (takes n) (pages n) (joinVotes takes pages n) w → withinOf set (w .page) ≡ true
+      go ih (left-out e) = ih
+      go ih (taken-in u s e) = union-within set _ (pages n) ih (h n (omega arith) u)
+      go ih (clashed u s e) = empty-within set

@@ -120,6 +120,7 @@ blank-granted agent row m h =
 
     fitting : Bool
     fitting = isEqual (orderOf (m .round) (row .prnd)) && has (row .prnd .cf) agent
+
     rest : ℕ
     rest = unless fitting wrongRound later
 
