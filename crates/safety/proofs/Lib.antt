@@ -6,3 +6,10 @@ pub mod Slots
 pub mod RackSteps
 pub mod BoxSteps
 pub mod ReaderSteps
+pub mod OpenGathers
+pub mod CoordinatorSteps
+pub mod NeverNine
+pub mod Views
+pub mod StepsKeep
+pub mod Fresh
+pub mod ReadersShow

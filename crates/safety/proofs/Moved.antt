@@ -14,6 +14,7 @@ pub data Agent : Type 0 where
   box : ℕ → Agent
   rack : ℕ → Agent
   reader : ℕ → Agent
+  deriving Discrete as agent-discrete
 
 -- the invariant of appendix A of 004, for the hall's racks and boxes
 abbrev pub SoundHall : Setup → History → Type 0

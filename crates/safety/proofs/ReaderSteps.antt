@@ -34,7 +34,7 @@ use Rattle.readers.specs.Notes.{noted, noteVoteRefusal, noteVoteRow, noteVoteOf
 use Rattle.readers.specs.Learning.{heldIn, blankIn, extended, HeldMajority, JoinsChosen, Learns, tooFew, notCompatible, allNil, learnt}
 use Rattle.history.specs.History.{_∈_, History, Present, Blank, Bears, Chosen}
 use Rattle.history.proofs.Lines.{absent-or-present}
-use Rattle.history.proofs.HeldIsChosen.{extended-bears}
+use Rattle.history.proofs.HeldIsChosen.{extended-bears, held-chosen}
 use Rattle.safety.proofs.Messages.{twoA, twoB, Says}
 use Rattle.safety.proofs.Rows.{Shown, ReaderTrue}
 use Rattle.safety.proofs.Moved.{reader, SoundHall, Stepped, Silent, still}
@@ -123,17 +123,11 @@ module _ (s : Setup) {H : History} (r : ReaderRow) (t : ReaderTrue s H r) where
     -- a line that a majority's extended pages have is chosen
     pub majority-chosen : setupInRange s ≡ true → (among : ℕ → Bool) → HeldMajority s r round among → (k : ℕ) (m : Mark) → Present m →
         ((b : ℕ) → b < mostBoxes → among b ≡ true → at (extended r round b) k ≡ m) → Chosen (s .boxes) H k m
+    unfolding extended
     majority-chosen good among y k m h each =
-        record {
-          present = h;
-          round = key round;
-          most =
-              record {
-                among = among;
-                enough = le-trans (y .enough) (count-within mostBoxes (s .boxes) among (λ b l e. facts b l e .exists));
-                each = λ b l e. let low = le-trans l (setup-parts s good .boxes) in held-bears b k m (facts b low e) h (each b low e);
-              };
-        }
+        held-chosen (s .boxes) H (key round) k m (blankIn r round) among (λ b. heldAt r b .page) h (blank-said k)
+        (le-trans (y .enough) (count-within mostBoxes (s .boxes) among (λ b l e. facts b l e .exists)))
+        (λ b l e. let low = le-trans l (setup-parts s good .boxes) in (held-cast b (facts b low e), each b low e))
       where
         facts : (b : ℕ) → b < mostBoxes → among b ≡ true → HeldFacts s r round b
         facts b l e = held-facts s r round b (y .held b l e)
