@@ -4,3 +4,7 @@ pub mod Counted
 pub mod ChosenLines
 pub mod CountingLearns
 pub mod LearntLines
+pub mod GrantedNotes
+pub mod RulesKept
+pub mod Shape
+pub mod Unique
