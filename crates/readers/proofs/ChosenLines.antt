@@ -7,13 +7,12 @@ use borrow.Author.Tests.{ltb-true, eqb-true}
 use mathlib.Core.Path.{_≡_, refl, sym, ap, subst, _∙_}
 use mathlib.Core.Bool.{Bool, true, false, cond, _&&_, true≢false}
 use mathlib.Core.Logic.{⊎-elim}
-use Rattle.below.specs.Below.{count}
 use Rattle.below.proofs.Tests.{and-true, and-left, and-right, decided, not-false-true}
 use Rattle.below.proofs.Counts.{count-grows}
 use Rattle.pages.specs.declared.line.Mark.{Mark}
 use Rattle.pages.specs.declared.line.Mark.the-variants.{Absent}
 use Rattle.pages.specs.declared.page.Page.{Page}
-use Rattle.pages.specs.Lines.{isAbsent, appendMark, prefixMark}
+use Rattle.pages.specs.Lines.{isAbsent, prefixMark}
 use Rattle.pages.specs.Racks.{mostRacks}
 use Rattle.pages.specs.Pages.{at, empty, appendOf, prefixOf, compatibleOf}
 use Rattle.pages.proofs.Lines.{absent-is, prefix-present, prefix-same, compatible-of-bound}

@@ -1,29 +1,27 @@
 -- Counting gives exactly what document 01 says of majorities: its answer has the property, and only its answer.
-use Prim.Native.Nat.{ℕ, _≤_, _<_}
+use Prim.Native.Nat.{ℕ}
 use native.Mathlib.Nat.{le-trans}
 use lib.Dec.{leb}
-use borrow.Author.Tests.{leb-true, leb-false, le-leb}
+use borrow.Author.Tests.{leb-true, le-leb}
 use mathlib.Core.Path.{_≡_, refl, sym, ap, subst, _∙_}
 use mathlib.Core.Bool.{Bool, true, false, cond, true≢false}
-use native.Mathlib.Omega.{arith}
 use Rattle.below.specs.Below.{count}
 use Rattle.below.specs.Refusals.{granted, noMajority, linesClash}
 use Rattle.below.proofs.Tests.{not-true-false}
 use Rattle.below.proofs.Counts.{count-grows}
 use Rattle.pages.specs.declared.page.Page.{Page}
-use Rattle.pages.specs.Racks.{mostRacks, racksBelow}
-use Rattle.pages.specs.Pages.{at, page, prefixOf, compatibleOf, unionOf, trivialOf}
+use Rattle.pages.specs.Racks.{racksBelow}
+use Rattle.pages.specs.Pages.{at, page, compatibleOf, unionOf, trivialOf}
 use Rattle.pages.proofs.Lines.{compatible-of-bound, prefix-antisym}
 use Rattle.pages.proofs.Filled.{page-same, at-page}
-use Rattle.pages.proofs.PageLaws.{prefix-lines, lines-compatible, union-left, union-right, union-least, at-union}
+use Rattle.pages.proofs.PageLaws.{prefix-lines, lines-compatible, union-left, union-right, union-least}
 use Rattle.rounds.specs.declared.setup.Setup.{Setup}
 use Rattle.rounds.specs.declared.round.Round.{Round}
 use Rattle.rounds.specs.Setups.{mostBoxes, majorityOf}
 use Rattle.records.specs.declared.rows.ReaderRow.{ReaderRow}
 use Rattle.readers.specs.declared.answer.Noted.{Noted}
-use Rattle.readers.specs.declared.counting.Learnt.{Learnt}
 use Rattle.readers.specs.Notes.{refused}
-use Rattle.readers.specs.Learning.{heldIn, HeldMajority, Above, JoinsChosen, withPage, Learns, tooFew, notCompatible, allNil, learnt}
+use Rattle.readers.specs.Learning.{heldIn, HeldMajority, Above, JoinsChosen, Learns, tooFew, notCompatible, allNil, learnt}
 use Rattle.readers.specs.Counting.{agreedPage, learntOf, answered, countedOf}
 use Rattle.readers.proofs.ChosenLines.{agreed-above, above-agreed}
 

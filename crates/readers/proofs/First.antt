@@ -1,21 +1,21 @@
 -- The line that enough of n boxes agree on, over any number of boxes and any lines: counting finds it exactly if there is one.
-use Prim.Native.Nat.{ℕ, zero, suc, _+_, _/_, _≤_, _<_}
+use Prim.Native.Nat.{ℕ, zero, suc, _+_, _≤_, _<_}
 use native.Mathlib.Omega.{arith}
 use native.Mathlib.Decide.{decLt}
 use lib.Dec.{leb}
 use borrow.Author.Tests.{not-true, leb-true, le-leb}
 use mathlib.Core.Path.{_≡_, refl, sym, ap, subst, _∙_}
-use mathlib.Core.Bool.{Bool, true, false, cond, not, _&&_, true≢false, false≢true}
+use mathlib.Core.Bool.{Bool, true, false, not, _&&_, true≢false, false≢true}
 use mathlib.Core.Logic.{⊎-elim}
 use Rattle.below.specs.Below.{any, count}
-use Rattle.below.proofs.Tests.{and-true, and-left, and-right, decided, below-suc, or-false, any-at, any-true, any-same, any-none, not-true-false}
-use Rattle.below.proofs.Counts.{count-same, count-grows, count-some, counts-meet}
+use Rattle.below.proofs.Tests.{and-true, and-left, and-right, decided, below-suc, any-at, any-true, any-same, any-none, not-true-false}
+use Rattle.below.proofs.Counts.{count-same, count-some, counts-meet}
 use Rattle.pages.specs.declared.line.Mark.{Mark}
 use Rattle.pages.specs.declared.line.Mark.the-variants.{Absent}
 use Rattle.pages.specs.Lines.{isAbsent, prefixMark}
-use Rattle.pages.proofs.Lines.{absent-is, prefix-present, prefix-same}
+use Rattle.pages.proofs.Lines.{prefix-present}
 use Rattle.rounds.specs.Setups.{majorityOf}
-use Rattle.rounds.proofs.Majorities.{majorities-meet, majority-some}
+use Rattle.rounds.proofs.Majorities.{majorities-meet}
 use Rattle.readers.specs.Counting.{carrying, enough, firstLine, agreedLine}
 
 -- the first line that passes

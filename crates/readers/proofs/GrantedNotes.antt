@@ -1,17 +1,16 @@
 -- What a granted note vote and note blank say: the tests that held, and the row. A refused step gives the row back.
-use Prim.Native.Nat.{ℕ, _≤_, _<_}
+use Prim.Native.Nat.{ℕ, _<_}
 use native.Mathlib.Omega.{arith}
 use native.Mathlib.Decide.{decLt, ℕ-discrete}
 use lib.ListN.{length, getD, set}
 use lib.Seq.{set-out, getD-set-same, getD-set-other}
 use borrow.Author.Tests.{not-true}
-use mathlib.Core.Path.{_≡_, refl, sym, ap, subst, _∙_}
+use mathlib.Core.Path.{_≡_, refl, sym, ap, _∙_}
 use mathlib.Core.Bool.{Bool, true, false, cond, not}
 use mathlib.Core.Logic.{_⊎_, inl, inr, ⊎-elim}
 use mathlib.Core.List.{List}
-use Rattle.below.specs.Refusals.{unless, granted, wrongMessage, wrongRound, alreadyDone, linesClash}
+use Rattle.below.specs.Refusals.{granted, wrongMessage, alreadyDone, linesClash}
 use Rattle.below.proofs.Granted.{unless-held, unless-later, answer-granted, answer-refused, answer-number}
-use Rattle.below.proofs.Tests.{decided}
 use Rattle.pages.specs.declared.line.Mark.the-variants.{Nil}
 use Rattle.pages.specs.declared.page.Page.{Page}
 use Rattle.pages.specs.Lines.{isNil}
@@ -22,14 +21,12 @@ use Rattle.rounds.specs.declared.order.Order.{Order}
 use Rattle.rounds.specs.declared.order.Order.the-variants.{Below, Equal, Above, Clash}
 use Rattle.rounds.specs.Rounds.{orderOf}
 use Rattle.rounds.proofs.Ordered.{Lower, Compared, compared}
-use Rattle.records.specs.declared.slots.Held.{Held}
-use Rattle.records.specs.declared.slots.Blank.{Blank}
 use Rattle.records.specs.declared.messages.TwoA.{TwoA}
 use Rattle.records.specs.declared.messages.TwoB.{TwoB}
 use Rattle.records.specs.declared.rows.ReaderRow.{ReaderRow}
 use Rattle.records.specs.Slots.{heldAt, blankAt}
 use Rattle.readers.specs.declared.answer.Noted.{Noted}
-use Rattle.readers.specs.Notes.{refused, noted, byOrder, sameRoundRefusal, noteVoteRefusal, noteVoteRow, noteVoteOf, noteBlankRefusal, noteBlankRow, noteBlankOf}
+use Rattle.readers.specs.Notes.{refused, byOrder, sameRoundRefusal, noteVoteRefusal, noteVoteRow, noteVoteOf, noteBlankRefusal, noteBlankRow, noteBlankOf}
 
 -- granted by the order of the rounds: lower, or the same and granted there
 by-order : (a b : Round) (same : ℕ) → byOrder (orderOf a b) same ≡ granted → Lower a b ⊎ ((a ≡ b) × (same ≡ granted))

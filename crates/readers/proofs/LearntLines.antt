@@ -6,13 +6,13 @@ use mathlib.Core.Bool.{Bool, true, false}
 use mathlib.Core.Logic.{_⊎_, inl, inr, ⊎-elim}
 use native.Mathlib.Omega.{arith}
 use Rattle.below.specs.Below.{count}
-use Rattle.below.specs.Refusals.{granted, noMajority, linesClash}
+use Rattle.below.specs.Refusals.{granted}
 use Rattle.below.proofs.Tests.{decided}
 use Rattle.pages.specs.declared.line.Mark.{Mark}
 use Rattle.pages.specs.declared.page.Page.{Page}
 use Rattle.pages.specs.Lines.{isAbsent, appendMark}
 use Rattle.pages.specs.Racks.{mostRacks, racksBelow}
-use Rattle.pages.specs.Pages.{at, trivialOf, unionOf}
+use Rattle.pages.specs.Pages.{at, trivialOf}
 use Rattle.pages.proofs.Lines.{append-present, append-absent}
 use Rattle.pages.proofs.PageLaws.{at-union}
 use Rattle.rounds.specs.declared.setup.Setup.{Setup}
@@ -20,8 +20,7 @@ use Rattle.rounds.specs.declared.round.Round.{Round}
 use Rattle.rounds.specs.Setups.{mostBoxes, majorityOf}
 use Rattle.records.specs.declared.rows.ReaderRow.{ReaderRow}
 use Rattle.readers.specs.declared.answer.Noted.{Noted}
-use Rattle.readers.specs.Notes.{refused}
-use Rattle.readers.specs.Learning.{heldIn, extended, HeldMajority, JoinsChosen, withPage, Learns, tooFew, notCompatible, allNil, learnt}
+use Rattle.readers.specs.Learning.{extended, HeldMajority, JoinsChosen, withPage, Learns, tooFew, notCompatible, allNil, learnt}
 use Rattle.readers.specs.Counting.{agreedPage}
 use Rattle.readers.proofs.First.{count-cut}
 use Rattle.readers.proofs.ChosenLines.{held-exists, carriers, carriers-line, agreed-majority}

@@ -8,3 +8,4 @@ pub mod GrantedNotes
 pub mod RulesKept
 pub mod Shape
 pub mod Unique
+pub mod Cases

@@ -1,32 +1,26 @@
 -- The rules are kept: a good row and a good message give, where the step is granted, a good row.
-use Prim.Native.Nat.{ℕ, _≤_, _<_}
+use Prim.Native.Nat.{ℕ, _<_}
 use native.Mathlib.Omega.{arith}
 use lib.Dec.{ltb}
-use lib.ListN.{length, length-set}
 use borrow.Author.Tests.{lt-ltb, ltb-true, not-true}
 use mathlib.Core.Path.{_≡_, refl, sym, ap, subst, _∙_}
 use mathlib.Core.Bool.{Bool, true, false, cond, not, _&&_, true≢false}
-use mathlib.Core.Logic.{_⊎_, inl, inr, ⊎-elim}
-use Rattle.below.specs.Below.{all}
+use mathlib.Core.Logic.{⊎-elim}
 use Rattle.below.specs.Refusals.{granted}
 use Rattle.below.proofs.Tests.{and-true, and-left, and-right, and-false-left, and-false-right, decided, not-true-false, all-at, all-true}
-use Rattle.below.proofs.Rows.{length-row}
 use Rattle.pages.specs.declared.line.Mark.{Mark}
 use Rattle.pages.specs.declared.page.Page.{Page}
 use Rattle.pages.specs.Lines.{isAbsent, markInRange}
 use Rattle.pages.specs.Racks.{mostRacks, has, racksBelow}
-use Rattle.pages.specs.Pages.{at, page, nilExtension, withinOf, valuedOf, trivialOf}
+use Rattle.pages.specs.Pages.{at, page, valuedOf, trivialOf}
 use Rattle.pages.proofs.Lines.{absent-is}
 use Rattle.pages.proofs.PageLaws.{nil-same, within-absent, within-range, lines-within}
 use Rattle.pages.proofs.Kept.{nil-within}
 use Rattle.rounds.specs.declared.setup.Setup.{Setup}
 use Rattle.rounds.specs.declared.round.Round.{Round}
-use Rattle.rounds.specs.Setups.{mostBoxes, majorityOf}
+use Rattle.rounds.specs.Setups.{mostBoxes}
 use Rattle.rounds.specs.Rounds.{roundInRange, sameRound}
-use Rattle.rounds.proofs.Majorities.{majority-some}
 use Rattle.below.proofs.Counts.{count-some}
-use Rattle.records.specs.declared.slots.Held.{Held}
-use Rattle.records.specs.declared.slots.Blank.{Blank}
 use Rattle.records.specs.declared.messages.TwoA.{TwoA}
 use Rattle.records.specs.declared.messages.TwoB.{TwoB}
 use Rattle.records.specs.declared.rows.ReaderRow.{ReaderRow}
@@ -35,7 +29,7 @@ use Rattle.records.specs.Rules.{pageRules, nothingHeld, heldRules, blankRules, 
 use Rattle.readers.specs.declared.answer.Noted.{Noted}
 use Rattle.readers.specs.Notes.{noteVoteRow, noteVoteOf, noteBlankRow, noteBlankOf}
 use Rattle.readers.specs.Learning.{heldIn, blankIn, extended, withPage, Learns}
-use Rattle.readers.proofs.GrantedNotes.{NoteVoteGranted, note-vote-granted, note-vote-held, NoteBlankGranted, note-blank-granted, note-blank-held}
+use Rattle.readers.proofs.GrantedNotes.{note-vote-granted, note-vote-held, note-blank-granted, note-blank-held}
 use Rattle.readers.proofs.LearntLines.{MajorityLine, learnt-lines, LearnGranted, learn-granted}
 
 -- the parts of a reader's row

@@ -2,13 +2,13 @@
 use Prim.Native.Nat.{ℕ}
 use lib.Dec.{eqb}
 use lib.ListN.{length, length-set}
-use mathlib.Core.Path.{_≡_, refl, sym, ap, subst, _∙_}
+use mathlib.Core.Path.{_≡_, sym, ap, _∙_}
 use mathlib.Core.Bool.{Bool, true, false, cond}
 use Rattle.below.specs.Refusals.{granted}
 use Rattle.below.proofs.Rows.{length-row}
 use Rattle.pages.specs.declared.page.Page.{Page}
 use Rattle.pages.specs.Racks.{mostRacks}
-use Rattle.pages.specs.Pages.{at, page}
+use Rattle.pages.specs.Pages.{page}
 use Rattle.rounds.specs.declared.setup.Setup.{Setup}
 use Rattle.rounds.specs.declared.round.Round.{Round}
 use Rattle.rounds.specs.Setups.{mostBoxes}

@@ -3,10 +3,10 @@
 use Prim.Native.Nat.{ℕ, _+_, _-_, _*_, _%_, _≤_, _<_}
 use native.Mathlib.Omega.{arith}
 use lib.Dec.{eqb}
-use lib.ListN.{length, set, getD, List·getD-eq-default}
+use lib.ListN.{length, set, List·getD-eq-default}
 use lib.Seq.{set-out}
 use borrow.Author.Tests.{eqb-true}
-use mathlib.Core.Path.{_≡_, refl, sym, ap, subst, _∙_}
+use mathlib.Core.Path.{_≡_, refl, ap, _∙_}
 use mathlib.Core.Bool.{Bool, true, false, cond}
 use mathlib.Core.List.{List, []}
 use Rattle.below.specs.Refusals.{granted}
@@ -20,7 +20,6 @@ use Rattle.pages.proofs.Sets.{setFrom, set-more, has-setOf}
 use Rattle.pages.proofs.PageLaws.{nil-same}
 use Rattle.rounds.specs.Setups.{mostBoxes}
 use Rattle.records.specs.declared.slots.Held.{Held}
-use Rattle.records.specs.declared.slots.Blank.{Blank}
 use Rattle.records.specs.declared.messages.TwoA.{TwoA}
 use Rattle.records.specs.declared.messages.TwoB.{TwoB}
 use Rattle.records.specs.declared.rows.ReaderRow.{ReaderRow}

@@ -3,7 +3,7 @@ use Prim.Native.Nat.{ℕ, zero, suc}
 use lib.Dec.{leb}
 use lib.ListN.{getD}
 use mathlib.Core.Bool.{Bool, cond, not, _&&_}
-use mathlib.Core.List.{List, []}
+use mathlib.Core.List.{[]}
 use Rattle.below.specs.Below.{any, count, row}
 use Rattle.below.specs.Refusals.{granted, noMajority, linesClash}
 use Rattle.pages.specs.declared.line.Mark.{Mark}
