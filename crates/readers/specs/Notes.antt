@@ -2,7 +2,7 @@
 use Prim.Native.Nat.{ℕ}
 use lib.Dec.{eqb}
 use lib.ListN.{set}
-use mathlib.Core.Bool.{Bool, true, cond, not}
+use mathlib.Core.Bool.{true, cond, not}
 use Rattle.below.specs.Refusals.{unless, granted, wrongMessage, wrongRound, alreadyDone, linesClash}
 use Rattle.pages.specs.declared.page.Page.{Page}
 use Rattle.pages.specs.Lines.{isNil}
