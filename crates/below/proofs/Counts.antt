@@ -74,6 +74,11 @@ pub count-miss : {k t : ℕ} (f : ℕ → Bool) → t ≡ count k f → f k ≡ 
 unfolding count
 count-miss {k} f p q = rw (p, add-one k, q) (omega arith)
 
+-- the turn that adds one where the test passes
+pub count-add : {k t x : ℕ} {r : Bool} (f : ℕ → Bool) → t ≡ count k f → r ≡ f k → x ≡ cond r 1 0 → t + x ≡ count (k + 1) f
+unfolding count
+count-add {k} f p e q = rw (q, p, add-one k, e)
+
 pub count-ends : (n k t : ℕ) (f : ℕ → Bool) → t ≡ count k f → k ≤ n → n ≤ k → t ≡ count n f
 count-ends n k t f h a b = subst (λ (m : ℕ). t ≡ count m f) (le-antisymm a b) h
 

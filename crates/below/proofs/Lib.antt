@@ -3,3 +3,4 @@ pub mod Rows
 pub mod Counts
 pub mod Unique
 pub mod Joins
+pub mod Granted

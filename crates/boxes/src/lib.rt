@@ -8,3 +8,6 @@ mod steps;
 
 pub use answer::Joined;
 pub use answer::Taken;
+pub use steps::join;
+pub use steps::take_page;
+pub use steps::take_reading;

@@ -2,8 +2,8 @@
 use Prim.Native.Nat.{ℕ, zero, suc}
 use lib.Dec.{eqb, leb}
 use lib.ListN.{set}
-use mathlib.Core.Bool.{Bool, true, cond, not, _&&_, _||_}
-use Rattle.below.specs.Below.{all, any, count, row}
+use mathlib.Core.Bool.{Bool, true, cond, not, _&&_}
+use Rattle.below.specs.Below.{any, count, row}
 use Rattle.below.specs.Refusals.{unless, granted, wrongRound, alreadyDone, noMajority, linesClash}
 use Rattle.pages.specs.declared.page.Page.{Page}
 use Rattle.pages.specs.declared.page.Vote.{Vote}
@@ -14,6 +14,7 @@ use Rattle.rounds.specs.declared.round.Round.{Round}
 use Rattle.rounds.specs.Setups.{mostBoxes, majorityOf}
 use Rattle.rounds.specs.Rounds.{roundOf, orderOf, isAbove, isEqual, isClash}
 use Rattle.records.specs.Slots.{noRound, noHeard, heardAt}
+use Rattle.records.specs.declared.slots.Heard.{Heard}
 use Rattle.records.specs.declared.messages.OneA.{OneA}
 use Rattle.records.specs.declared.messages.OneB.{OneB}
 use Rattle.records.specs.declared.messages.TwoS.{TwoS}
@@ -59,19 +60,28 @@ hearOf r box m =
 -- 5 open: crnd's c is the agent, else 6 (and 6 where the vrnds of any two heard votes clash); cval none, else 7; majority heard,
 -- else 8. With no vote among all heard, cval is the empty page. Otherwise take the votes of the highest vrnd that has any, join
 -- them (9 if not compatible), Nil-extend over all racks. Sends 2S with cval
-abbrev pub heardVote : CoordinatorRow → ℕ → Bool
-heardVote r box = heardAt r box .filled && heardAt r box .vote .some
+abbrev pub isVote : Heard → Bool
+isVote h = h .filled && h .vote .some
 
--- the vrnds of two heard votes clash
-abbrev pub votesClash : CoordinatorRow → ℕ → ℕ → Bool
-votesClash r a b = heardVote r a && heardVote r b && isClash (orderOf (heardAt r a .vrnd) (heardAt r b .vrnd))
+unfoldable pub anyVote : CoordinatorRow → Bool
+anyVote r = any mostBoxes (λ box. isVote (heardAt r box))
+
+-- two votes whose vrnds clash, and one with a higher vrnd than another's
+abbrev pub clashing : Heard → Heard → Bool
+clashing a b = isVote a && isVote b && isClash (orderOf (a .vrnd) (b .vrnd))
+
+abbrev pub higher : Heard → Heard → Bool
+higher a b = isVote a && isAbove (orderOf (a .vrnd) (b .vrnd))
 
 unfoldable pub anyClash : CoordinatorRow → Bool
-anyClash r = any mostBoxes (λ a. any mostBoxes (λ b. votesClash r a b))
+anyClash r = any mostBoxes (λ a. any mostBoxes (λ b. clashing (heardAt r a) (heardAt r b)))
 
--- a heard vote of the highest vrnd that has any: no heard vote has a higher one
-unfoldable pub highestVote : CoordinatorRow → ℕ → Bool
-highestVote r box = heardVote r box && not (any mostBoxes (λ b. heardVote r b && isAbove (orderOf (heardAt r b .vrnd) (heardAt r box .vrnd))))
+-- a vote of the highest vrnd that has any: no heard vote has a higher one
+unfoldable pub highest : CoordinatorRow → Heard → Bool
+highest r h = isVote h && not (any mostBoxes (λ box. higher (heardAt r box) h))
+
+unfoldable pub heardCount : CoordinatorRow → ℕ
+heardCount r = count mostBoxes (λ box. heardAt r box .filled)
 
 -- one vote more joined to those before, none once they were not compatible
 abbrev pub joinMore : Bool → Page → Vote → Vote
@@ -83,16 +93,16 @@ joinVotes takes pages zero = some empty
 joinVotes takes pages (suc n) = joinMore (takes n) (pages n) (joinVotes takes pages n)
 
 unfoldable pub joinedVotes : CoordinatorRow → Vote
-joinedVotes r = joinVotes (highestVote r) (λ box. heardAt r box .vote .page) mostBoxes
+joinedVotes r = joinVotes (λ box. highest r (heardAt r box)) (λ box. heardAt r box .vote .page) mostBoxes
 
 unfoldable pub openPage : Setup → CoordinatorRow → Page
-openPage s r = cond (any mostBoxes (heardVote r)) (nilExtension (racksBelow (s .racks)) (joinedVotes r .page)) empty
+openPage s r = cond (anyVote r) (nilExtension (racksBelow (s .racks)) (joinedVotes r .page)) empty
 
 unfoldable pub openRefusal : Setup → ℕ → CoordinatorRow → ℕ
 openRefusal s agent r =
     unless (eqb (r .crnd .c) agent && not (anyClash r)) wrongRound
     (unless (not (r .cval .some)) alreadyDone
-    (unless (leb (majorityOf (s .boxes)) (count mostBoxes (λ box. heardAt r box .filled))) noMajority
+    (unless (leb (majorityOf (s .boxes)) (heardCount r)) noMajority
     (unless (joinedVotes r .some) linesClash granted)))
 
 unfoldable pub openRow : CoordinatorRow → Page → CoordinatorRow

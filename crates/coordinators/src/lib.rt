@@ -5,7 +5,13 @@
 // specs/ says. The rules of rows and messages are the records' business, blocks and places the
 // hall's.
 mod answer;
+mod heard;
+mod joined;
+mod steps;
 
 pub use answer::Hearing;
 pub use answer::Opened;
 pub use answer::Started;
+pub use steps::hear;
+pub use steps::open;
+pub use steps::start;

@@ -4,3 +4,5 @@ pub mod Lines
 pub mod Algebra
 pub mod PageLaws
 pub mod Unique
+pub mod Extension
+pub mod Kept

@@ -8,4 +8,7 @@ mod steps;
 
 pub use answer::Prepared;
 pub use answer::Spoken;
+pub use steps::blank;
+pub use steps::fast;
 pub use steps::offer;
+pub use steps::prepare;

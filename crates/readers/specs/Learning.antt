@@ -17,6 +17,7 @@ use Rattle.rounds.specs.Rounds.{sameRound}
 use Rattle.records.specs.Slots.{heldAt, blankAt}
 use Rattle.records.specs.declared.rows.ReaderRow.{ReaderRow}
 use Rattle.readers.specs.declared.answer.Noted.{Noted}
+use Rattle.readers.specs.Notes.{refused}
 
 -- a box held at exactly that round
 abbrev pub heldIn : Setup → ReaderRow → Round → ℕ → Bool
@@ -55,15 +56,12 @@ pub record JoinsChosen (s : Setup) (r : ReaderRow) (round : Round) (w : Page) : 
 abbrev pub withPage : ReaderRow → Page → ReaderRow
 withPage r w = record { page = w; held = r .held; blanks = r .blanks }
 
-abbrev pub refusedLearn : ℕ → ReaderRow → Noted
-refusedLearn number r = record { refusal = number; row = r }
-
 -- what learn answers
 pub data Learns (s : Setup) (r : ReaderRow) (round : Round) : Noted → Type 0 where
-  tooFew : ((among : ℕ → Bool) → HeldMajority s r round among → ⊥) → Learns s r round (refusedLearn noMajority r)
+  tooFew : ((among : ℕ → Bool) → HeldMajority s r round among → ⊥) → Learns s r round (refused noMajority r)
   notCompatible : (among : ℕ → Bool) → HeldMajority s r round among → ((w : Page) → Above s r round w → ⊥) →
-      Learns s r round (refusedLearn linesClash r)
+      Learns s r round (refused linesClash r)
   allNil : (among : ℕ → Bool) → HeldMajority s r round among → (w : Page) → JoinsChosen s r round w → trivialOf (racksBelow (s .racks)) w ≡ true →
-      Learns s r round (refusedLearn linesClash r)
+      Learns s r round (refused linesClash r)
   learnt : (among : ℕ → Bool) → HeldMajority s r round among → (w : Page) → JoinsChosen s r round w → trivialOf (racksBelow (s .racks)) w ≡ false →
       Learns s r round (record { refusal = granted; row = withPage r w })

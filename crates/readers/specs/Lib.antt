@@ -1,2 +1,4 @@
 pub mod Notes
 pub mod Learning
+pub mod Counting
+pub mod Cases

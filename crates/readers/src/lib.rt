@@ -5,5 +5,11 @@
 // contract is document 01's property over majorities, and the code counts. The rules of rows and
 // messages are the records' business, blocks and places the hall's.
 mod answer;
+mod counting;
+mod learning;
+mod notes;
 
 pub use answer::Noted;
+pub use learning::learn;
+pub use notes::note_blank;
+pub use notes::note_vote;

@@ -1,0 +1,11 @@
+pub mod Ways
+pub mod First
+pub mod Counted
+pub mod ChosenLines
+pub mod CountingLearns
+pub mod LearntLines
+pub mod GrantedNotes
+pub mod RulesKept
+pub mod Shape
+pub mod Unique
+pub mod Cases

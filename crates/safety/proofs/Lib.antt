@@ -1,0 +1,15 @@
+pub mod Messages
+pub mod Rows
+pub mod Moved
+pub mod InRange
+pub mod Slots
+pub mod RackSteps
+pub mod BoxSteps
+pub mod ReaderSteps
+pub mod OpenGathers
+pub mod CoordinatorSteps
+pub mod NeverNine
+pub mod Views
+pub mod StepsKeep
+pub mod Fresh
+pub mod ReadersShow
