@@ -81,3 +81,7 @@ next at a b old mid after there h p e q =
       is = q .is ∙ ap (λ (n : ℕ). splice n b mid) e ∙ ap (λ (l : List ℕ). splice (at + length a) b l) (p .is) ∙ splice-next at a b old h;
       kept = q .kept ∙ p .kept;
     }
+
+-- the same bytes, said otherwise
+pub same-put : {at : ℕ} {a b old after : List ℕ} → a ≡ b → Spliced at a old after → Spliced at b old after
+same-put {at} {a} {b} {old} {after} e p = subst (λ (l : List ℕ). Spliced at l old after) e p
