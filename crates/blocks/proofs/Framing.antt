@@ -18,32 +18,30 @@ use Rattle.fields.specs.Codecs.{Codec, oneByte, twoBytes, both, like}
 use Rattle.fields.proofs.Cuts.{cut, length-cut, cut-at, cut-byte, ext}
 use Rattle.fields.proofs.Lawful.{Lawful, one-lawful, two-lawful, both-lawful, like-lawful}
 use Rattle.fields.proofs.Fitted.{Any}
-use Rattle.blocks.specs.Frame.{blockSize, wordsEnd, bodyAt, fixed, zeroRun, stampAs, framed, checks, sealed}
+use Rattle.blocks.specs.Frame.{blockSize, wordsEnd, bodyAt, fixed, zeroRun, stampAs, framed, checks, sealed, Sealed}
 use Rattle.blocks.specs.Kinds.{Kind, content}
 
 pub fixed-lawful : (x : ℕ) → x < 256 → Lawful (fixed x) Any
 fixed-lawful x l =
-    record
-    {
+    record {
       long = λ u. refl;
       small = λ u h. one-lawful .small x l;
       fit = λ bytes h at. tt;
       back = λ u h bytes at e. refl;
       exact-cut = λ bytes h at e. one-lawful .exact-cut bytes h at refl ∙ ap (λ (y : ℕ). y ∷ []) (eqb-true (byte bytes at) x e);
-      cut-exact = λ bytes h at e. eq-eqb (byte bytes at) x (one-lawful .back x l bytes at e)
+      cut-exact = λ bytes h at e. eq-eqb (byte bytes at) x (one-lawful .back x l bytes at e);
     }
 
 pub zero-run-lawful : (n : ℕ) → Lawful (zeroRun n) Any
 zero-run-lawful n =
-    record
-    {
+    record {
       long = λ u. length-replicate n 0;
       small = λ u h k. none k (decLt k n);
       fit = λ bytes h at. tt;
       back = λ u h bytes at e. refl;
       exact-cut = λ bytes h at e. ext n (cut n bytes at) (zeros n) (length-cut n bytes at) (length-replicate n 0)
           (λ k l. cut-at n bytes at k l ∙ zero-at bytes n at e k l ∙ sym (getD-replicate n k 0 0 l));
-      cut-exact = λ bytes h at e. zero-true bytes n at (λ k l. cut-byte n bytes at (zeros n) e k l ∙ getD-replicate n k 0 0 l)
+      cut-exact = λ bytes h at e. zero-true bytes n at (λ k l. cut-byte n bytes at (zeros n) e k l ∙ getD-replicate n k 0 0 l);
     }
   where
     none : (k : ℕ) → Dec (k < n) → byte (zeros n) k < 256
@@ -115,15 +113,20 @@ framed-is kind end bytes {f} {s} {z} {z₁} {z₂} {x} {y} {r} {g} {h} p q t sum
   where
     join : {a b a' b' : Bool} → a ≡ a' → b ≡ b' → a && b ≡ a' && b'
     join u v = rw (u, v)
+
     equal : {m n m' n' : ℕ} → m ≡ m' → n ≡ n' → eqb m n ≡ eqb m' n'
     equal u v = rw (u, v)
 
 pub sealed-is : (end : ℕ) {f s : ℕ} {old one two after : List ℕ} → length old ≡ blockSize → end ≤ wordsEnd → Spliced end (zeros (wordsEnd - end)) old one →
-    (f ≡ firstOf one) × (s ≡ secondOf one) → Spliced wordsEnd (bytes4 f) one two → Spliced (wordsEnd + 4) (bytes4 s) two after → after ≡ sealed end old
+    (f ≡ firstOf one) × (s ≡ secondOf one) → Spliced wordsEnd (bytes4 f) one two → Spliced (wordsEnd + 4) (bytes4 s) two after → Sealed end old after
 unfolding sealed
 sealed-is end {f} {s} {old} {one} {two} {after} long h z sums p q =
-    next wordsEnd (bytes4 f) (bytes4 s) one two after (wordsEnd + 4) (subst (λ (n : ℕ). wordsEnd + 4 ≤ n) (sym (z .kept ∙ long)) (omega arith)) p refl q .is ∙
-    ap (λ (l : List ℕ). splice wordsEnd l one) (both-checks (sums .0) (sums .1)) ∙ ap (λ (l : List ℕ). splice wordsEnd (checks l) l) (z .is)
+    record { is = is-sealed; kept = q .kept ∙ p .kept ∙ z .kept }
   where
     both-checks : {a b : ℕ} → a ≡ firstOf one → b ≡ secondOf one → bytes4 a ++ bytes4 b ≡ checks one
     both-checks u v = rw (u, v)
+
+    is-sealed : after ≡ splice wordsEnd (checks (splice end (zeros (wordsEnd - end)) old)) (splice end (zeros (wordsEnd - end)) old)
+    is-sealed =
+        next wordsEnd (bytes4 f) (bytes4 s) one two after (wordsEnd + 4) (subst (λ (n : ℕ). wordsEnd + 4 ≤ n) (sym (z .kept ∙ long)) (omega arith)) p refl q .is ∙
+        ap (λ (l : List ℕ). splice wordsEnd l one) (both-checks (sums .0) (sums .1)) ∙ ap (λ (l : List ℕ). splice wordsEnd (checks l) l) (z .is)

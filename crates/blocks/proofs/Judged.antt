@@ -36,14 +36,20 @@ pub block-parts : (bytes : List ℕ) → length bytes ≡ blockSize → bytes �
 block-parts bytes h =
     sym (cut-all bytes) ∙ ap (λ (n : ℕ). cut n bytes 0) h ∙ cut-parts wordsEnd 8 bytes 0 ∙ ap (λ (l : List ℕ). cut wordsEnd bytes 0 ++ l) (cut-parts 4 4 bytes wordsEnd)
 
-module _ {A : Type 0} (k : Kind A) (P : A → Type 0) (number : k .number < 256) (room : bodyAt + k .body .size ≤ wordsEnd) (lawful : Lawful (k .body) P) where
+-- what a kind has to show: its number is a byte, its body has room, and its codec is lawful for the values that fit
+pub record Proper {A : Type 0} (k : Kind A) (P : A → Type 0) : Type 0 where
+  pub number-small : k .number < 256
+  pub room : bodyAt + k .body .size ≤ wordsEnd
+  pub lawful : Lawful (k .body) P
+
+module _ {A : Type 0} (k : Kind A) (P : A → Type 0) (proper : Proper k P) where
   whole : Lawful (content k) (λ v. StampFits (v .0) × P (v .1))
-  whole = content-lawful k P number lawful
+  whole = content-lawful k P (proper .number-small) (proper .lawful)
 
   content-size : content k .size ≡ wordsEnd
   content-size = omega arith
 
-  length-content : (v : Stamp × A) → length (content k .put v) ≡ wordsEnd
+  pub length-content : (v : Stamp × A) → length (content k .put v) ≡ wordsEnd
   length-content v = whole .long v ∙ content-size
 
   -- an encoding has length 512
@@ -102,26 +108,35 @@ module _ {A : Type 0} (k : Kind A) (P : A → Type 0) (number : k .number < 256)
       where
         first-right : Bool
         first-right = eqb (number4 bytes wordsEnd) (firstOf bytes)
+
         second-right : Bool
         second-right = eqb (number4 bytes (wordsEnd + 4)) (secondOf bytes)
+
         kind-right : Bool
         kind-right = eqb (byte bytes 2) (k .number)
+
         rest-right : Bool
         rest-right = zeroAt (wordsEnd - (bodyAt + k .body .size)) bytes (bodyAt + k .body .size)
+
         frame : (kind-right && rest-right) && (first-right && second-right) ≡ true
         frame = and-right (k .body .exact bytes bodyAt) _ h
+
         sums : first-right && second-right ≡ true
         sums = and-right (kind-right && rest-right) _ frame
+
         outside : kind-right && rest-right ≡ true
         outside = and-left _ (first-right && second-right) frame
+
         is : cut wordsEnd bytes 0 ≡ content k .put (decode k bytes)
         is =
             ap (λ (n : ℕ). cut n bytes 0) (sym content-size) ∙
             whole .exact-cut bytes small 0
             (and-true (and-true (and-left kind-right rest-right outside) refl)
             (and-true (and-left (k .body .exact bytes bodyAt) ((kind-right && rest-right) && (first-right && second-right)) h) (and-right kind-right rest-right outside)))
+
         check : (at : ℕ) {x : ℕ} → number4 bytes at ≡ x → cut 4 bytes at ≡ bytes4 x
         check at e = four-lawful .exact-cut bytes small at refl ∙ ap bytes4 e
+
         joined : {a b c x y z : List ℕ} → a ≡ x → b ≡ y → c ≡ z → a ++ (b ++ c) ≡ x ++ (y ++ z)
         joined p q r = rw (p, q, r)
 
@@ -135,24 +150,34 @@ module _ {A : Type 0} (k : Kind A) (P : A → Type 0) (number : k .number < 256)
       where
         words-is : List ℕ
         words-is = content k .put (decode k bytes)
+
         kind-right : Bool
         kind-right = eqb (byte bytes 2) (k .number)
+
         rest-right : Bool
         rest-right = zeroAt (wordsEnd - (bodyAt + k .body .size)) bytes (bodyAt + k .body .size)
+
         parts : cut wordsEnd bytes 0 ++ (cut 4 bytes wordsEnd ++ cut 4 bytes (wordsEnd + 4)) ≡ words-is ++ (bytes4 (firstOf words-is) ++ bytes4 (secondOf words-is))
         parts = sym (block-parts bytes long) ∙ h
+
         sized : length (cut wordsEnd bytes 0) ≡ length words-is
         sized = length-cut wordsEnd bytes 0 ∙ sym (length-content (decode k bytes))
+
         is : cut wordsEnd bytes 0 ≡ words-is
         is = front-same (cut wordsEnd bytes 0) (cut 4 bytes wordsEnd ++ cut 4 bytes (wordsEnd + 4)) words-is (bytes4 (firstOf words-is) ++ bytes4 (secondOf words-is)) sized parts
+
         both-cut : cut 4 bytes wordsEnd ++ cut 4 bytes (wordsEnd + 4) ≡ bytes4 (firstOf words-is) ++ bytes4 (secondOf words-is)
         both-cut = rest-same (cut wordsEnd bytes 0) (cut 4 bytes wordsEnd ++ cut 4 bytes (wordsEnd + 4)) words-is (bytes4 (firstOf words-is) ++ bytes4 (secondOf words-is)) sized parts
+
         first-cut : cut 4 bytes wordsEnd ≡ bytes4 (firstOf words-is)
         first-cut = front-same (cut 4 bytes wordsEnd) (cut 4 bytes (wordsEnd + 4)) (bytes4 (firstOf words-is)) (bytes4 (secondOf words-is)) (length-cut 4 bytes wordsEnd) both-cut
+
         second-cut : cut 4 bytes (wordsEnd + 4) ≡ bytes4 (secondOf words-is)
         second-cut = rest-same (cut 4 bytes wordsEnd) (cut 4 bytes (wordsEnd + 4)) (bytes4 (firstOf words-is)) (bytes4 (secondOf words-is)) (length-cut 4 bytes wordsEnd) both-cut
+
         exact : (kind-right && true) && (k .body .exact bytes bodyAt && rest-right) ≡ true
         exact = whole .cut-exact bytes small 0 (ap (λ (n : ℕ). cut n bytes 0) content-size ∙ is)
+
         inside : k .body .exact bytes bodyAt && rest-right ≡ true
         inside = and-right (kind-right && true) _ exact
 

@@ -1,2 +1,3 @@
 pub mod Framing
 pub mod Judged
+pub mod Answered

@@ -1,6 +1,8 @@
 -- What stands around the body of every block (document 01, 'Blocks').
 use Prim.Native.Nat.{ℕ, _+_, _-_}
 use lib.Dec.{eqb}
+use lib.ListN.{length}
+use mathlib.Core.Path.{_≡_}
 use mathlib.Core.Bool.{Bool, _&&_}
 use mathlib.Core.List.{List, [], _∷_, _++_}
 use Rattle.rounds.specs.declared.setup.Setup.{Setup}
@@ -35,11 +37,10 @@ abbrev pub stampAs : ℕ → Codec Stamp
 stampAs kind =
     like
     (λ s. (s .instance .0, (tt, (s .setup .racks, (s .setup .boxes, (s .setup .coordinators, (s .setup .readers, (s .setup .c0, (s .setup .cf0, s .agent)))))))))
-    (λ p. record
-    {
+    (λ p. record {
       instance = record { 0 = p .0 };
       setup = setupOf (p .1 .1 .0) (p .1 .1 .1 .0) (p .1 .1 .1 .1 .0) (p .1 .1 .1 .1 .1 .0) (p .1 .1 .1 .1 .1 .1 .0) (p .1 .1 .1 .1 .1 .1 .1 .0);
-      agent = p .1 .1 .1 .1 .1 .1 .1 .1
+      agent = p .1 .1 .1 .1 .1 .1 .1 .1;
     })
     (both twoBytes (both (fixed kind) (both oneByte (both oneByte (both oneByte (both oneByte (both oneByte (both oneByte oneByte))))))))
 
@@ -56,3 +57,8 @@ checks words = bytes4 (firstOf words) ++ bytes4 (secondOf words)
 -- zeros from the body's end on, then the check words
 unfoldable pub sealed : ℕ → List ℕ → List ℕ
 sealed end bytes = splice wordsEnd (checks (splice end (zeros (wordsEnd - end)) bytes)) (splice end (zeros (wordsEnd - end)) bytes)
+
+-- what sealing promises of its lent bytes
+pub record Sealed (end : ℕ) (old after : List ℕ) : Type 0 where
+  pub is : after ≡ sealed end old
+  pub kept : length after ≡ length old

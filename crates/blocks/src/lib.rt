@@ -8,7 +8,7 @@ ghost use mathlib.Core.Path.{_≡_};
 ghost use Prim.Native.Nat.{_+_, _-_, _≤_};
 ghost use lib.ListN.{length};
 ghost use Rattle.words.specs.Bytes.{Spliced};
-ghost use Rattle.blocks.specs.Frame.{blockSize, wordsEnd, setupBytes, stampAs, framed, sealed};
+ghost use Rattle.blocks.specs.Frame.{blockSize, wordsEnd, setupBytes, stampAs, framed, Sealed};
 use below::both;
 use records::Stamp;
 use rounds::Instance;
@@ -104,7 +104,7 @@ pub fn framed(block: &[u8], kind: u8, end: usize) -> bool
 // Zeros from the body's end on, then the check words.
 pub fn seal(block: &mut [u8], end: usize)
     requires { ⌜ (length (now block) ≡ blockSize) × (end ≤ wordsEnd) ⌝ }
-    ensures { λ _. ⌜ now (block .exit) ≡ sealed end (now (block .entry)) ⌝ }
+    ensures { λ _. ⌜ Sealed end (now (block .entry)) (now (block .exit)) ⌝ }
 {
     words::put_zeros(block, end, CHECKS - end);
     let sums = words::sums_of(block);
