@@ -1,9 +1,10 @@
 -- The five kinds are proper: which records fit, and that their codecs are lawful; and a body as it is read, field by field.
-use Prim.Native.Nat.{ℕ, _<_}
+use Prim.Native.Nat.{ℕ, _+_, _≤_, _<_}
 use native.Mathlib.Omega.{arith}
-use mathlib.Core.Path.{_≡_, refl, _∙_}
+use mathlib.Core.Path.{_≡_, refl, sym, ap, subst, _∙_}
 use mathlib.Core.Bool.{Bool, true, _&&_}
-use mathlib.Core.List.{List}
+use mathlib.Core.List.{List, _++_}
+use lib.ListN.{length}
 use Rattle.pages.specs.declared.line.Line.{Line}
 use Rattle.pages.specs.declared.page.Page.{Page}
 use Rattle.pages.specs.declared.page.Vote.{Vote}
@@ -19,7 +20,8 @@ use Rattle.records.specs.declared.rows.BoxRow.{BoxRow}
 use Rattle.records.specs.declared.rows.RackRow.{RackRow}
 use Rattle.records.specs.declared.rows.ReaderRow.{ReaderRow}
 use Rattle.records.specs.Slots.{noBlank}
-use Rattle.words.specs.Bytes.{number2}
+use Rattle.words.specs.Bytes.{number2, Spliced}
+use Rattle.words.proofs.Splices.{next}
 use Rattle.fields.specs.Codecs.{twoBytes, both, Got}
 use Rattle.fields.specs.Layout.{round, lineAs, page, vote, fiveHeard, fiveHeld, eightBlanks, pastHeard, pastHeld}
 use Rattle.fields.proofs.Lawful.{two-lawful, both-lawful, like-lawful}
@@ -32,16 +34,21 @@ use Rattle.row_blocks.specs.Rows.{head, coordinator, box, rack, reader}
 joined : {a b x y : Bool} → a ≡ x → b ≡ y → a && b ≡ x && y
 joined p q = rw (p, q)
 
+-- two writes in a row, of which the first has a size that its law says
+pub behind : {at there : ℕ} {a b old mid after : List ℕ} (size : ℕ) → length a ≡ size → at + size ≤ length old → Spliced at a old mid → there ≡ at + size →
+    Spliced there b mid after → Spliced at (a ++ b) old after
+behind {at} {there} {a} {b} {old} {mid} {after} size l h p e q =
+    next at a b old mid after there (subst (λ (n : ℕ). at + n ≤ length old) (sym l) h) p (e ∙ ap (λ (n : ℕ). at + n) (sym l)) q
+
 abbrev pub HeadFits : Head → Type 0
 HeadFits r = r .count < 65536
 
 pub head-proper : Proper head HeadFits
 head-proper =
-    record
-    {
+    record {
       number-small = omega arith;
       room = omega arith;
-      lawful = like-lawful (λ r. r .count) (λ x. record { count = x }) twoBytes HeadFits (λ x. x < 65536) two-lawful (λ v h. h) (λ w h. h) (λ v h. refl) (λ w h. refl)
+      lawful = like-lawful (λ r. r .count) (λ x. record { count = x }) twoBytes HeadFits (λ x. x < 65536) two-lawful (λ v h. h) (λ w h. h) (λ v h. refl) (λ w h. refl);
     }
 
 pub head-got : (bytes : List ℕ) {x : ℕ} → x ≡ number2 bytes bodyAt → Got (head .body) bytes bodyAt (record { count = x }) true
@@ -52,13 +59,12 @@ CoordinatorFits r = RoundFits (r .crnd) × (VoteFits (r .cval) × Listed mostBox
 
 pub coordinator-proper : Proper coordinator CoordinatorFits
 coordinator-proper =
-    record
-    {
+    record {
       number-small = omega arith;
       room = omega arith;
       lawful = like-lawful (λ r. (r .crnd, (r .cval, r .heard))) (λ p. record { crnd = p .0; cval = p .1 .0; heard = p .1 .1 }) (both round (both vote fiveHeard)) CoordinatorFits _
           (both-lawful round (both vote fiveHeard) RoundFits _ round-lawful
-          (both-lawful vote fiveHeard VoteFits (Listed mostBoxes pastHeard HeardFits) vote-lawful five-heard-lawful)) (λ v h. h) (λ w h. h) (λ v h. refl) (λ w h. refl)
+          (both-lawful vote fiveHeard VoteFits (Listed mostBoxes pastHeard HeardFits) vote-lawful five-heard-lawful)) (λ v h. h) (λ w h. h) (λ v h. refl) (λ w h. refl);
     }
 
 pub coordinator-got : (bytes : List ℕ) {r : Round} {v : Vote} {l : List Heard} {e f g : Bool} → r ≡ round .get bytes bodyAt → Got vote bytes 14 v e → Got fiveHeard bytes 55 l f →
@@ -70,13 +76,12 @@ BoxFits r = RoundFits (r .rnd) × (RoundFits (r .vrnd) × VoteFits (r .vval))
 
 pub box-proper : Proper box BoxFits
 box-proper =
-    record
-    {
+    record {
       number-small = omega arith;
       room = omega arith;
       lawful = like-lawful (λ r. (r .rnd, (r .vrnd, r .vval))) (λ p. record { rnd = p .0; vrnd = p .1 .0; vval = p .1 .1 }) (both round (both round vote)) BoxFits _
           (both-lawful round (both round vote) RoundFits _ round-lawful (both-lawful round vote RoundFits VoteFits round-lawful vote-lawful))
-          (λ v h. h) (λ w h. h) (λ v h. refl) (λ w h. refl)
+          (λ v h. h) (λ w h. h) (λ v h. refl) (λ w h. refl);
     }
 
 pub box-got : (bytes : List ℕ) {r s : Round} {v : Vote} {e : Bool} → r ≡ round .get bytes bodyAt → s ≡ round .get bytes 14 → Got vote bytes 18 v e →
@@ -88,12 +93,11 @@ RackFits r = RoundFits (r .prnd) × LineFits (r .pval)
 
 pub rack-proper : Proper rack RackFits
 rack-proper =
-    record
-    {
+    record {
       number-small = omega arith;
       room = omega arith;
       lawful = like-lawful (λ r. (r .prnd, r .pval)) (λ p. record { prnd = p .0; pval = p .1 }) (both round lineAs) RackFits _
-          (both-lawful round lineAs RoundFits LineFits round-lawful line-lawful) (λ v h. h) (λ w h. h) (λ v h. refl) (λ w h. refl)
+          (both-lawful round lineAs RoundFits LineFits round-lawful line-lawful) (λ v h. h) (λ w h. h) (λ v h. refl) (λ w h. refl);
     }
 
 pub rack-got : (bytes : List ℕ) {r : Round} {v : Line} {e : Bool} → r ≡ round .get bytes bodyAt → Got lineAs bytes 14 v e →
@@ -105,14 +109,13 @@ ReaderFits r = PageFits (r .page) × (Listed mostBoxes pastHeld HeldFits (r .hel
 
 pub reader-proper : Proper reader ReaderFits
 reader-proper =
-    record
-    {
+    record {
       number-small = omega arith;
       room = omega arith;
       lawful = like-lawful (λ r. (r .page, (r .held, r .blanks))) (λ p. record { page = p .0; held = p .1 .0; blanks = p .1 .1 }) (both page (both fiveHeld eightBlanks)) ReaderFits _
           (both-lawful page (both fiveHeld eightBlanks) PageFits _ page-lawful
           (both-lawful fiveHeld eightBlanks (Listed mostBoxes pastHeld HeldFits) (Listed mostRacks noBlank BlankFits) five-held-lawful eight-blanks-lawful))
-          (λ v h. h) (λ w h. h) (λ v h. refl) (λ w h. refl)
+          (λ v h. h) (λ w h. h) (λ v h. refl) (λ w h. refl);
     }
 
 pub reader-got : (bytes : List ℕ) {v : Page} {l : List Held} {m : List Blank} {e f g i j : Bool} → Got page bytes bodyAt v e → Got fiveHeld bytes 50 l f →

@@ -45,8 +45,16 @@ fn refused(refusal: u8) -> BoxRowRead
         refusal,
         stamp: NO_STAMP,
         body: BoxRow {
-            rnd: Round { n: Number(0), c: 0, cf: 0 },
-            vrnd: Round { n: Number(0), c: 0, cf: 0 },
+            rnd: Round {
+                n: Number(0),
+                c: 0,
+                cf: 0,
+            },
+            vrnd: Round {
+                n: Number(0),
+                c: 0,
+                cf: 0,
+            },
             vval: Vote::NONE,
         },
     }
@@ -68,7 +76,11 @@ pub fn read_box(block: &[u8]) -> BoxRowRead
     let exact = both(vval_read.exact, framed(block, KIND, END));
     let rules = both(stamp.rules(setup.boxes), body.rules(setup, stamp.agent));
     if both(exact, rules) {
-        BoxRowRead { refusal: 0, stamp, body }
+        BoxRowRead {
+            refusal: 0,
+            stamp,
+            body,
+        }
     } else {
         refused(2)
     }

@@ -50,7 +50,11 @@ fn refused(refusal: u8) -> CoordinatorRowRead
         refusal,
         stamp: NO_STAMP,
         body: CoordinatorRow {
-            crnd: Round { n: Number(0), c: 0, cf: 0 },
+            crnd: Round {
+                n: Number(0),
+                c: 0,
+                cf: 0,
+            },
             cval: Vote::NONE,
             heard,
         },
@@ -71,10 +75,20 @@ pub fn read_coordinator(block: &[u8]) -> CoordinatorRowRead
     let heard_read = read_heard(block, HEARD);
     let heard = heard_read.value;
     let body = CoordinatorRow { crnd, cval, heard };
-    let exact = both(both(cval_read.exact, heard_read.exact), framed(block, KIND, END));
-    let rules = both(stamp.rules(setup.coordinators), body.rules(setup, stamp.agent));
+    let exact = both(
+        both(cval_read.exact, heard_read.exact),
+        framed(block, KIND, END),
+    );
+    let rules = both(
+        stamp.rules(setup.coordinators),
+        body.rules(setup, stamp.agent),
+    );
     if both(exact, rules) {
-        CoordinatorRowRead { refusal: 0, stamp, body }
+        CoordinatorRowRead {
+            refusal: 0,
+            stamp,
+            body,
+        }
     } else {
         refused(2)
     }
@@ -87,7 +101,10 @@ pub fn write_coordinator(block: &mut [u8], stamp: Stamp, body: CoordinatorRow) -
         return 1;
     }
     let setup = stamp.setup;
-    if !both(stamp.rules(setup.coordinators), body.rules(setup, stamp.agent)) {
+    if !both(
+        stamp.rules(setup.coordinators),
+        body.rules(setup, stamp.agent),
+    ) {
         return 2;
     }
     let crnd = body.crnd;

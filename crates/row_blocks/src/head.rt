@@ -33,9 +33,7 @@ fn refused(refusal: u8) -> HeadRead
     HeadRead {
         refusal,
         stamp: NO_STAMP,
-        body: Head {
-            count: 0,
-        },
+        body: Head { count: 0 },
     }
 }
 
@@ -52,7 +50,11 @@ pub fn read_head(block: &[u8]) -> HeadRead
     let exact = framed(block, KIND, END);
     let rules = both(stamp.rules(1), body.rules(setup, stamp.agent));
     if both(exact, rules) {
-        HeadRead { refusal: 0, stamp, body }
+        HeadRead {
+            refusal: 0,
+            stamp,
+            body,
+        }
     } else {
         refused(2)
     }

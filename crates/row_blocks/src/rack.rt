@@ -44,7 +44,11 @@ fn refused(refusal: u8) -> RackRowRead
         refusal,
         stamp: NO_STAMP,
         body: RackRow {
-            prnd: Round { n: Number(0), c: 0, cf: 0 },
+            prnd: Round {
+                n: Number(0),
+                c: 0,
+                cf: 0,
+            },
             pval: Line { mark: Mark::Absent },
         },
     }
@@ -65,7 +69,11 @@ pub fn read_rack(block: &[u8]) -> RackRowRead
     let exact = both(pval_read.exact, framed(block, KIND, END));
     let rules = both(stamp.rules(setup.racks), body.rules(setup, stamp.agent));
     if both(exact, rules) {
-        RackRowRead { refusal: 0, stamp, body }
+        RackRowRead {
+            refusal: 0,
+            stamp,
+            body,
+        }
     } else {
         refused(2)
     }

@@ -73,10 +73,17 @@ pub fn read_reader(block: &[u8]) -> ReaderRowRead
     let blanks_read = read_blanks(block, BLANKS);
     let blanks = blanks_read.value;
     let body = ReaderRow { page, held, blanks };
-    let exact = both(both(page_read.exact, both(held_read.exact, blanks_read.exact)), framed(block, KIND, END));
+    let exact = both(
+        both(page_read.exact, both(held_read.exact, blanks_read.exact)),
+        framed(block, KIND, END),
+    );
     let rules = both(stamp.rules(setup.readers), body.rules(setup, stamp.agent));
     if both(exact, rules) {
-        ReaderRowRead { refusal: 0, stamp, body }
+        ReaderRowRead {
+            refusal: 0,
+            stamp,
+            body,
+        }
     } else {
         refused(2)
     }
