@@ -25,7 +25,7 @@ use Rattle.records.specs.declared.rows.BoxRow.{BoxRow}
 use Rattle.records.specs.declared.rows.RackRow.{RackRow}
 use Rattle.records.specs.declared.rows.ReaderRow.{ReaderRow}
 use Rattle.records.specs.Slots.{noRound, noBlank, heardAt, heldAt, blankAt}
-use Rattle.records.specs.Rules.{pageRules, openedRules, lastRules, nothingHeard, nothingHeld, heardRules, heldRules, blankRules, allHeard, allHeld, allBlanks, headRules, coordinatorRules, boxRules, rackRules, readerRules}
+use Rattle.records.specs.Rules.{pageRules, openedRules, lastRules, nothingHeard, nothingHeld, filledHeard, heardRules, heldRules, blankRules, allHeard, allHeld, allBlanks, headRules, coordinatorRules, boxRules, rackRules, readerRules}
 use Rattle.fields.specs.Layout.{pastHeard, pastHeld}
 use Rattle.fields.proofs.Times.{Listed}
 use Rattle.fields.proofs.Fitted.{Any, HeardFits, HeldFits, BlankFits}
@@ -56,7 +56,7 @@ head-kept = kept-of head HeadFits Any head-proper (λ s f. omega arith) (λ s r 
 
 -- slots, filled or empty
 heard-fits : (s : Setup) (crnd : Round) (k : ℕ) (h : Heard) → SetupFits s → Lined (h .vote .page) → heardRules s crnd k h ≡ true → HeardFits h
-unfolding heardRules nothingHeard
+unfolding heardRules filledHeard nothingHeard
 heard-fits s crnd k h f l e = go (h .filled) e
   where
     go : (b : Bool) → cond b (ltb k (s .boxes) && not (sameRound crnd (zeroOf s)) && lastRules s (h .vrnd) (h .vote) && isBelow (orderOf (h .vrnd) crnd))
