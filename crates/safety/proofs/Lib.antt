@@ -13,3 +13,4 @@ pub mod Views
 pub mod StepsKeep
 pub mod Fresh
 pub mod ReadersShow
+pub mod PagesGain

@@ -25,6 +25,7 @@ use Rattle.records.specs.Rules.{coordinatorRules}
 use Rattle.coordinators.specs.Steps.{isVote, anyVote, heardCount, joinedVotes, openPage}
 use Rattle.coordinators.proofs.HighestVote.{highest-vote, highest-top, top-highest, highest-exists}
 use Rattle.coordinators.proofs.OpenPage.{votesHighest, votedPage, open-some-vote, OpenLine, of-vote, all-absent, open-line, open-past, open-joins}
+use Rattle.readers.proofs.First.{count-cut}
 use Rattle.history.specs.History.{_∈_, History, Present}
 use Rattle.history.specs.Reports.{Hearing, Heard, VotedAt, GatheredLine, Gathered}
 use Rattle.history.proofs.Lines.{absent-or-present}
@@ -33,7 +34,6 @@ use Rattle.history.proofs.VotesAreValued.{vote-within}
 use Rattle.safety.proofs.Rows.{CoordinatorTrue}
 use Rattle.safety.proofs.Moved.{SoundHall}
 use Rattle.safety.proofs.InRange.{setup-parts, lower-number, not-lower-number, heard-facts}
-use Rattle.safety.proofs.Slots.{count-within}
 
 -- what a coordinator keeps, as the history reads it
 abbrev pub hearing : CoordinatorRow → Hearing
@@ -51,7 +51,9 @@ module _ (s : Setup) {H : History} (S : SoundHall s H) (good : setupInRange s �
   unfolding heardCount
   heard-most m =
       record {
-        enough = le-trans m (count-within mostBoxes (s .boxes) (λ b. heardAt r b .filled) (λ b l e. heard-facts s c r rules b l e .0));
+        enough =
+            subst (λ (n : ℕ). majorityOf (s .boxes) ≤ n)
+            (count-cut mostBoxes (s .boxes) (λ b. heardAt r b .filled) (setup-parts s good .boxes) (λ b l e. heard-facts s c r rules b l e .0)) m;
         told = λ b l e. t .heard b e;
       }
 

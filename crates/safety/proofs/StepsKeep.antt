@@ -14,7 +14,6 @@ use Rattle.records.specs.declared.messages.OneB.{OneB}
 use Rattle.records.specs.declared.messages.TwoS.{TwoS}
 use Rattle.records.specs.declared.messages.TwoA.{TwoA}
 use Rattle.records.specs.declared.messages.TwoB.{TwoB}
-use Rattle.records.specs.declared.rows.ReaderRow.{ReaderRow}
 use Rattle.records.specs.Rules.{oneARules, twoSRules, twoARules, coordinatorRules, boxRules, rackRules}
 use Rattle.racks.specs.Steps.{offerOf, prepareOf, fastOf, blankOf}
 use Rattle.boxes.specs.Steps.{joinOf, takePageOf, takeReadingOf}
@@ -30,7 +29,7 @@ use Rattle.safety.proofs.InRange.{small-coordinator}
 use Rattle.safety.proofs.RackSteps.{offer-moves, prepare-moves, fast-moves, blank-moves}
 use Rattle.safety.proofs.BoxSteps.{join-moves, take-page-moves, take-reading-moves}
 use Rattle.safety.proofs.CoordinatorSteps.{start-moves, hear-moves, open-moves}
-use Rattle.safety.proofs.ReaderSteps.{LearntLines, note-vote-moves, note-blank-moves, learn-moves}
+use Rattle.safety.proofs.ReaderSteps.{note-vote-moves, note-blank-moves, learn-moves}
 use Rattle.safety.proofs.Views.{View, Kept, Changes, OwnTrue, kept-after}
 
 -- what comes to the post: one message, or none
@@ -70,7 +69,7 @@ pub data Grants (s : Setup) (hall hall′ : View) : List Offer → Type 0 where
       hall′ .readers i ≡ noteVoteOf (hall .readers i) b m .row → Changes (reader i) Nothing hall hall′ → Grants s hall hall′ []
   noteBlank : (i k : ℕ) (m : TwoA) → i < s .readers → hall .posted (twoA k m) → noteBlankOf (hall .readers i) k m .refusal ≡ granted →
       hall′ .readers i ≡ noteBlankOf (hall .readers i) k m .row → Changes (reader i) Nothing hall hall′ → Grants s hall hall′ []
-  learn : (i : ℕ) (round : Round) (a : Noted) → i < s .readers → Learns s (hall .readers i) round a → hall′ .readers i ≡ a .row →
+  learn : (i : ℕ) (round : Round) (a : Noted) → i < s .readers → Learns s (hall .readers i) round a → a .refusal ≡ granted → hall′ .readers i ≡ a .row →
       Changes (reader i) Nothing hall hall′ → Grants s hall hall′ []
 
 -- the rules of messages that the moves rest on
@@ -116,41 +115,41 @@ module _ (s : Setup) {H : History} {hall hall′ : View} (rules : Ruled s hall) 
         offers = t .moved .offers-are;
       }
 
-  pub step-keeps : ((r : ReaderRow) (round : Round) → LearntLines s r round) → {offered : List Offer} → Grants s hall hall′ offered → Next s H hall′ offered
-  step-keeps lines (offer k v l e d) =
+  pub step-keeps : {offered : List Offer} → Grants s hall hall′ offered → Next s H hall′ offered
+  step-keeps (offer k v l e d) =
       next (record { rack = k; reading = v } ∷ []) (offer-moves s (kept .sound) k _ (kept .racks k l) v) d (λ H′. subst (RackTrue H′ k) (sym e)) only
-  step-keeps lines (start c n cf l h e d) =
+  step-keeps (start c n cf l h e d) =
       next [] (start-moves s (kept .sound) (rules .setup) c _ (kept .coordinators c l) (rules .coordinators c l) n cf l h) d
       (λ H′. subst (CoordinatorTrue H′ c) (sym e)) only
-  step-keeps lines (join b c m l p h e d) =
+  step-keeps (join b c m l p h e d) =
       next [] (join-moves s (kept .sound) (rules .setup) b _ (kept .boxes b l) (rules .boxes b l) c m (rules .posted _ p) h) d
       (λ H′. subst (BoxTrue H′ b) (sym e)) only
-  step-keeps lines (hear c b m l p h e d) =
+  step-keeps (hear c b m l p h e d) =
       next [] (hear-moves s (kept .sound) (rules .setup) c _ (kept .coordinators c l) (rules .coordinators c l) b m (kept .posted _ p) h) d
       (λ H′. subst (CoordinatorTrue H′ c) (sym e)) nothing
-  step-keeps lines (opening c l h e d) =
+  step-keeps (opening c l h e d) =
       next [] (open-moves s (kept .sound) (rules .setup) c _ (kept .coordinators c l) (rules .coordinators c l) h) d
       (λ H′. subst (CoordinatorTrue H′ c) (sym e)) only
-  step-keeps lines (prepare k c m l p h e d) =
+  step-keeps (prepare k c m l p h e d) =
       next []
       (prepare-moves s (kept .sound) k _ (kept .racks k l) c m (rules .setup) l (rules .racks k l) (rules .posted _ p) (kept .posted _ p) h) d
       (λ H′. subst (RackTrue H′ k) (sym e)) nothing
-  step-keeps lines (fast k j m l p h e d) =
+  step-keeps (fast k j m l p h e d) =
       next [] (fast-moves s (kept .sound) k _ (kept .racks k l) j m (kept .posted _ p) h) d (λ H′. subst (RackTrue H′ k) (sym e)) only
-  step-keeps lines (blank k j m l p h e d) =
+  step-keeps (blank k j m l p h e d) =
       next [] (blank-moves s (kept .sound) k _ (kept .racks k l) m h) d (λ H′. subst (RackTrue H′ k) (sym e)) only
-  step-keeps lines (takePage b c m l p h e d) =
+  step-keeps (takePage b c m l p h e d) =
       next [] (take-page-moves s (kept .sound) (rules .setup) b _ (kept .boxes b l) (rules .boxes b l) c m (rules .posted _ p) (kept .posted _ p) h) d
       (λ H′. subst (BoxTrue H′ b) (sym e)) only
-  step-keeps lines (takeReading b k m l p h e d) =
+  step-keeps (takeReading b k m l p h e d) =
       next []
       (take-reading-moves s (kept .sound) (rules .setup) b _ (kept .boxes b l) (rules .boxes b l) k m (rules .posted _ p .0) (rules .posted _ p .1)
       (kept .posted _ p) h)
       d (λ H′. subst (BoxTrue H′ b) (sym e)) only
-  step-keeps lines (noteVote i b m l p h e d) =
+  step-keeps (noteVote i b m l p h e d) =
       next [] (note-vote-moves s (kept .sound) i _ (kept .readers i l) b m (kept .posted _ p) h) d (λ H′. subst (ReaderTrue s H′) (sym e)) nothing
-  step-keeps lines (noteBlank i k m l p h e d) =
+  step-keeps (noteBlank i k m l p h e d) =
       next [] (note-blank-moves s (kept .sound) i _ (kept .readers i l) k m (kept .posted _ p) h) d (λ H′. subst (ReaderTrue s H′) (sym e)) nothing
-  step-keeps lines (learn i round a l y e d) =
-      next [] (learn-moves s (kept .sound) i _ (kept .readers i l) round a (rules .setup) (lines _ round) y) d
+  step-keeps (learn i round a l y h e d) =
+      next [] (learn-moves s (kept .sound) i _ (kept .readers i l) round a (rules .setup) y) d
       (λ H′. subst (ReaderTrue s H′) (sym e)) nothing
