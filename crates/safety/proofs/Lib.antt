@@ -14,3 +14,4 @@ pub mod StepsKeep
 pub mod Fresh
 pub mod ReadersShow
 pub mod PagesGain
+pub mod Runs

@@ -1,13 +1,12 @@
 -- Pages only gain lines: no step but a learn of the reader changes its page, and a learn extends it or leaves it.
-use Prim.Native.Nat.{ℕ}
+use Prim.Native.Nat.{ℕ, _<_}
 use native.Mathlib.Omega.{arith}
 use native.Mathlib.Decide.{ℕ-discrete}
-use mathlib.Core.Path.{_≡_, sym, ap, _∙_}
+use mathlib.Core.Path.{_≡_, ap, _∙_}
 use mathlib.Core.Bool.{true}
 use mathlib.Core.Logic.{_≢_}
 use mathlib.Core.List.{List}
 use Rattle.below.specs.Refusals.{granted}
-use Rattle.pages.specs.declared.page.Page.{Page}
 use Rattle.pages.specs.Pages.{prefixOf}
 use Rattle.pages.proofs.PageLaws.{prefix-of-refl}
 use Rattle.rounds.specs.declared.setup.Setup.{Setup}
@@ -60,29 +59,29 @@ module _ (s : Setup) (hall hall′ : View) where
   same-page : (i : ℕ) → hall′ .readers i .page ≡ hall .readers i .page → Gains hall hall′ i
   same-page i e = rw e (prefix-of-refl (hall .readers i .page))
 
-  by-other : {who : Agent} {New : Message → Type 0} → Changes who New hall hall′ → (i : ℕ) → who ≢ reader i → Gains hall hall′ i
-  by-other d i n = same-page i (ap (λ (r : ReaderRow). r .page) (d .readers i n))
+  by-other : {who : Agent} {New : Message → Type 0} → Changes s who New hall hall′ → (i : ℕ) → i < s .readers → who ≢ reader i → Gains hall hall′ i
+  by-other d i l n = same-page i (ap (λ (r : ReaderRow). r .page) (d .readers i l n))
 
-  by-reader : {New : Message → Type 0} (j : ℕ) → Changes (reader j) New hall hall′ → Gains hall hall′ j → (i : ℕ) → Gains hall hall′ i
-  by-reader j d own i = go (ℕ-discrete i j)
+  by-reader : {New : Message → Type 0} (j : ℕ) → Changes s (reader j) New hall hall′ → Gains hall hall′ j → (i : ℕ) → i < s .readers → Gains hall hall′ i
+  by-reader j d own i l = go (ℕ-discrete i j)
     where
       go : Dec (i ≡ j) → Gains hall hall′ i
       go (yes e) = rw e own
-      go (no n) = by-other d i (reader-apart j i n)
+      go (no n) = by-other d i l (reader-apart j i n)
 
-  pub pages-gain : {offered : List Offer} → Grants s hall hall′ offered → (i : ℕ) → Gains hall hall′ i
-  pages-gain (offer k v l e d) i = by-other d i (rack-apart k i)
-  pages-gain (start c n cf l h e d) i = by-other d i (coordinator-apart c i)
-  pages-gain (join b c m l p h e d) i = by-other d i (box-apart b i)
-  pages-gain (hear c b m l p h e d) i = by-other d i (coordinator-apart c i)
-  pages-gain (opening c l h e d) i = by-other d i (coordinator-apart c i)
-  pages-gain (prepare k c m l p h e d) i = by-other d i (rack-apart k i)
-  pages-gain (fast k j m l p h e d) i = by-other d i (rack-apart k i)
-  pages-gain (blank k j m l p h e d) i = by-other d i (rack-apart k i)
-  pages-gain (takePage b c m l p h e d) i = by-other d i (box-apart b i)
-  pages-gain (takeReading b k m l p h e d) i = by-other d i (box-apart b i)
-  pages-gain (noteVote j b m l p h e d) i =
-      by-reader j d (same-page j (ap (λ (r : ReaderRow). r .page) e ∙ note-vote-page (hall .readers j) b m h)) i
-  pages-gain (noteBlank j k m l p h e d) i =
-      by-reader j d (same-page j (ap (λ (r : ReaderRow). r .page) e ∙ note-blank-page (hall .readers j) k m h)) i
-  pages-gain (learn j round a l y h e d) i = by-reader j d (rw e (learn-gains s (hall .readers j) round y)) i
+  pub pages-gain : {offered : List Offer} → Grants s hall hall′ offered → (i : ℕ) → i < s .readers → Gains hall hall′ i
+  pages-gain (offer k v l e d) i x = by-other d i x (rack-apart k i)
+  pages-gain (start c n cf l h e d) i x = by-other d i x (coordinator-apart c i)
+  pages-gain (join b c m l p h e d) i x = by-other d i x (box-apart b i)
+  pages-gain (hear c b m l p h e d) i x = by-other d i x (coordinator-apart c i)
+  pages-gain (opening c l h e d) i x = by-other d i x (coordinator-apart c i)
+  pages-gain (prepare k c m l p h e d) i x = by-other d i x (rack-apart k i)
+  pages-gain (fast k j m l p h e d) i x = by-other d i x (rack-apart k i)
+  pages-gain (blank k j m l p h e d) i x = by-other d i x (rack-apart k i)
+  pages-gain (takePage b c m l p h e d) i x = by-other d i x (box-apart b i)
+  pages-gain (takeReading b k m l p h e d) i x = by-other d i x (box-apart b i)
+  pages-gain (noteVote j b m l p h e d) i x =
+      by-reader j d (same-page j (ap (λ (r : ReaderRow). r .page) e ∙ note-vote-page (hall .readers j) b m h)) i x
+  pages-gain (noteBlank j k m l p h e d) i x =
+      by-reader j d (same-page j (ap (λ (r : ReaderRow). r .page) e ∙ note-blank-page (hall .readers j) k m h)) i x
+  pages-gain (learn j round a l y h e d) i x = by-reader j d (rw e (learn-gains s (hall .readers j) round y)) i x

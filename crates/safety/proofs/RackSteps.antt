@@ -3,13 +3,11 @@ use Prim.Native.Nat.{ℕ, _<_}
 use native.Mathlib.Omega.{arith}
 use mathlib.Core.Path.{_≡_, refl, sym, ap, subst, _∙_}
 use mathlib.Core.Bool.{Bool, true, false, cond}
-use mathlib.Core.Logic.{_≢_}
 use mathlib.Core.List.{_∷_, List·Memᴰ·head}
 use Rattle.below.specs.Refusals.{granted}
 use Rattle.pages.specs.declared.line.Reading.{Reading}
 use Rattle.pages.specs.declared.line.Mark.{Mark}
 use Rattle.pages.specs.declared.line.Mark.the-variants.{Absent, Nil, Reading as reads}
-use Rattle.pages.specs.Lines.{isAbsent}
 use Rattle.pages.specs.Pages.{at, emptyOf}
 use Rattle.rounds.specs.declared.setup.Setup.{Setup}
 use Rattle.rounds.specs.declared.round.Round.{Round}

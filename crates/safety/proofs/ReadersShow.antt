@@ -1,6 +1,6 @@
 -- What readers show, at whichever moments: their pages agree, their readings were offered, not every rack is blank.
 use Prim.Native.Nat.{ℕ, _<_}
-use mathlib.Core.Path.{_≡_, refl, sym, ap, subst, _∙_}
+use mathlib.Core.Path.{_≡_, ap, subst}
 use mathlib.Core.Bool.{true}
 use Rattle.pages.specs.declared.line.Reading.{Reading}
 use Rattle.pages.specs.declared.line.Mark.the-variants.{Nil, Reading as reads}
