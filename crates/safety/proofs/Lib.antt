@@ -15,3 +15,4 @@ pub mod Fresh
 pub mod ReadersShow
 pub mod PagesGain
 pub mod Runs
+pub mod FreshRuns

@@ -43,7 +43,7 @@ use Rattle.history.proofs.NeverAllBlank.{never-all-blank}
 use Rattle.safety.proofs.Messages.{twoB, Says}
 use Rattle.safety.proofs.Rows.{CoordinatorTrue, ReaderTrue}
 use Rattle.safety.proofs.Moved.{SoundHall}
-use Rattle.safety.proofs.InRange.{setup-parts}
+use Rattle.safety.proofs.InRange.{setup-some-rack}
 use Rattle.safety.proofs.OpenGathers.{votes-join}
 use Rattle.safety.proofs.ReaderSteps.{majority-chosen, learnt-shown}
 
@@ -112,7 +112,7 @@ module _ (s : Setup) {H : History} (S : SoundHall s H) (good : setupInRange s �
       (union-right (r .page) (agreedPage s r round) agreed-compatible)
 
   not-trivial : (w : Page) → JoinsChosen s r round w → trivialOf (racksBelow (s .racks)) w ≡ true → ⊥
-  not-trivial w j e = never-all-blank S (setup-parts s good .some-rack) blank
+  not-trivial w j e = never-all-blank S (setup-some-rack s good) blank
     where
       blank : (k : ℕ) → k < s .racks → Chosen (s .boxes) H k Nil
       blank k l =

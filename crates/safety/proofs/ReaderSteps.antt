@@ -24,6 +24,7 @@ use Rattle.records.specs.declared.messages.TwoA.{TwoA}
 use Rattle.records.specs.declared.messages.TwoB.{TwoB}
 use Rattle.records.specs.declared.rows.ReaderRow.{ReaderRow}
 use Rattle.records.specs.Slots.{heldAt, blankAt}
+use Rattle.records.proofs.RuleParts.{setup-boxes}
 use Rattle.readers.specs.declared.answer.Noted.{Noted}
 use Rattle.readers.specs.Notes.{noteVoteRow, noteVoteOf, noteBlankRow, noteBlankOf}
 use Rattle.readers.specs.Learning.{heldIn, blankIn, extended, JoinsChosen, Learns, tooFew, notCompatible, allNil, learnt}
@@ -35,7 +36,6 @@ use Rattle.history.proofs.HeldIsChosen.{held-chosen}
 use Rattle.safety.proofs.Messages.{twoA, twoB, Says}
 use Rattle.safety.proofs.Rows.{Shown, ReaderTrue}
 use Rattle.safety.proofs.Moved.{reader, SoundHall, Stepped, Silent, still}
-use Rattle.safety.proofs.InRange.{setup-parts}
 use Rattle.safety.proofs.Slots.{slot-cases}
 
 module _ (s : Setup) {H : History} (r : ReaderRow) (t : ReaderTrue s H r) where
@@ -81,7 +81,7 @@ module _ (s : Setup) {H : History} (r : ReaderRow) (t : ReaderTrue s H r) where
           (λ b l e. let low = le-trans l boxes in (held-cast b (y .majority .held b low e), y .line b low e))
         where
           boxes : s .boxes ≤ mostBoxes
-          boxes = setup-parts s good .boxes
+          boxes = setup-boxes s good
 
       -- what is learnt is chosen, line by line
       pub learnt-shown : (w : Page) → JoinsChosen s r round w → Shown s H w

@@ -1,10 +1,10 @@
 -- Runs of a hall and their moments: all histories of a run's moments grow to the last one.
 use Prim.Native.Nat.{ℕ, _<_}
-use mathlib.Core.Path.{_≡_, refl, sym, ap, _∙_}
+use mathlib.Core.Path.{refl, sym, ap, _∙_}
 use mathlib.Core.List.{List, [], _++_, append-assoc}
 use Rattle.pages.proofs.PageLaws.{prefix-of-refl, prefix-of-trans}
 use Rattle.rounds.specs.declared.setup.Setup.{Setup}
-use Rattle.history.specs.History.{Offer, History, Grows}
+use Rattle.history.specs.History.{Offer, History}
 use Rattle.history.proofs.Growth.{grows-refl, grows-trans}
 use Rattle.safety.proofs.Views.{View, Kept}
 use Rattle.safety.proofs.StepsKeep.{Grants, Ruled, Next, step-keeps}
