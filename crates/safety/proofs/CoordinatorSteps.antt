@@ -30,8 +30,8 @@ use Rattle.history.proofs.FactsStay.{told-stays}
 use Rattle.history.proofs.Updates.{put-same, put-other}
 use Rattle.history.proofs.OpenedIsSafe.{gathered-whole}
 use Rattle.history.proofs.OpenMoves.{open-grows, open-free-sound, open-fixed-sound}
-use Rattle.safety.proofs.Messages.{oneA, oneB, twoS, Says, TwoSTrue}
-use Rattle.safety.proofs.Rows.{CoordinatorTrue}
+use Rattle.safety.proofs.TrueMessages.{oneA, oneB, twoS, Says, TwoSTrue}
+use Rattle.safety.proofs.TrueRows.{CoordinatorTrue}
 use Rattle.safety.proofs.Moved.{coordinator, SoundHall, Stepped, Silent, still}
 use Rattle.safety.proofs.InRange.{small, small-coordinator, crnd-range}
 use Rattle.safety.proofs.Slots.{equal-slots, slot-cases}

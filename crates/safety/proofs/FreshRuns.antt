@@ -19,10 +19,10 @@ use Rattle.readers.specs.declared.answer.Noted.{Noted}
 use Rattle.readers.specs.Notes.{noteVoteOf}
 use Rattle.readers.specs.Learning.{Learns}
 use Rattle.history.specs.History.{Offer, Offered, Present}
-use Rattle.safety.proofs.Messages.{twoB}
+use Rattle.safety.proofs.TrueMessages.{twoB}
 use Rattle.safety.proofs.Views.{View}
 use Rattle.safety.proofs.StepsKeep.{Next}
-use Rattle.safety.proofs.Fresh.{FreshView, freshOf, fresh-kept}
+use Rattle.safety.proofs.FreshIsKept.{FreshView, freshOf, fresh-kept}
 use Rattle.safety.proofs.ReadersShow.{pages-agree, readings-offered, never-all-nil}
 use Rattle.safety.proofs.NeverNine.{open-never-nine, note-vote-never-nine, learn-never-nine}
 use Rattle.safety.proofs.Runs.{Run, Moment, run-keeps, moment-seen}

@@ -40,8 +40,8 @@ use Rattle.history.specs.History.{_∈_, History, Present, Chosen}
 use Rattle.history.proofs.VotesAreChains.{votes-chain}
 use Rattle.history.proofs.ChosenAgree.{chosen-agree}
 use Rattle.history.proofs.NeverAllBlank.{never-all-blank}
-use Rattle.safety.proofs.Messages.{twoB, Says}
-use Rattle.safety.proofs.Rows.{CoordinatorTrue, ReaderTrue}
+use Rattle.safety.proofs.TrueMessages.{twoB, Says}
+use Rattle.safety.proofs.TrueRows.{CoordinatorTrue, ReaderTrue}
 use Rattle.safety.proofs.Moved.{SoundHall}
 use Rattle.safety.proofs.InRange.{setup-some-rack}
 use Rattle.safety.proofs.OpenGathers.{votes-join}

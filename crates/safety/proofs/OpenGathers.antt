@@ -32,7 +32,7 @@ use Rattle.history.specs.Reports.{Hearing, Heard, VotedAt, GatheredLine, Gather
 use Rattle.history.proofs.Lines.{absent-or-present}
 use Rattle.history.proofs.VotesAgree.{votes-compatible}
 use Rattle.history.proofs.VotesAreValued.{vote-within}
-use Rattle.safety.proofs.Rows.{CoordinatorTrue}
+use Rattle.safety.proofs.TrueRows.{CoordinatorTrue}
 use Rattle.safety.proofs.Moved.{SoundHall}
 use Rattle.safety.proofs.InRange.{lower-number, not-lower-number, heard-facts}
 

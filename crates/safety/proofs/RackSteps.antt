@@ -26,8 +26,8 @@ use Rattle.history.specs.Moves.{offer, say}
 use Rattle.history.proofs.Lines.{absent-or-present, nil-or-reading}
 use Rattle.history.proofs.Updates.{put₂-same, put₂-other}
 use Rattle.history.proofs.OfferJoinSay.{offer-grows, offer-sound, say-grows, say-sound}
-use Rattle.safety.proofs.Messages.{propose, twoS, twoA, Says}
-use Rattle.safety.proofs.Rows.{RackTrue}
+use Rattle.safety.proofs.TrueMessages.{propose, twoS, twoA, Says}
+use Rattle.safety.proofs.TrueRows.{RackTrue}
 use Rattle.safety.proofs.Moved.{rack, SoundHall, Stepped, Silent, still}
 use Rattle.safety.proofs.InRange.{lower-number, rack-range, twoS-range}
 

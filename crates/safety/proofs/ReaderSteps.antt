@@ -33,8 +33,8 @@ use Rattle.readers.proofs.LearntLines.{MajorityLine, learnt-lines, majority-of-
 use Rattle.history.specs.History.{_∈_, History, Present, Chosen}
 use Rattle.history.proofs.Lines.{absent-or-present}
 use Rattle.history.proofs.HeldIsChosen.{held-chosen}
-use Rattle.safety.proofs.Messages.{twoA, twoB, Says}
-use Rattle.safety.proofs.Rows.{Shown, ReaderTrue}
+use Rattle.safety.proofs.TrueMessages.{twoA, twoB, Says}
+use Rattle.safety.proofs.TrueRows.{Shown, ReaderTrue}
 use Rattle.safety.proofs.Moved.{reader, SoundHall, Stepped, Silent, still}
 use Rattle.safety.proofs.Slots.{slot-cases}
 

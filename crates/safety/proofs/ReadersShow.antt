@@ -13,7 +13,7 @@ use Rattle.history.specs.History.{History, Grows, Offered, Present, Chosen}
 use Rattle.history.proofs.ChosenAgree.{chosen-agree}
 use Rattle.history.proofs.ChosenWasOffered.{chosen-offered}
 use Rattle.history.proofs.NeverAllBlank.{never-all-blank}
-use Rattle.safety.proofs.Rows.{Shown, shown-stays}
+use Rattle.safety.proofs.TrueRows.{Shown, shown-stays}
 use Rattle.safety.proofs.Moved.{SoundHall}
 use Rattle.safety.proofs.InRange.{setup-some-rack}
 use Rattle.safety.proofs.Views.{View, Kept}

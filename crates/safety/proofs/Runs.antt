@@ -8,7 +8,7 @@ use Rattle.history.specs.History.{Offer, History}
 use Rattle.history.proofs.Growth.{grows-refl, grows-trans}
 use Rattle.safety.proofs.Views.{View, Kept}
 use Rattle.safety.proofs.StepsKeep.{Grants, Ruled, Next, step-keeps}
-use Rattle.safety.proofs.PagesGain.{Gains, pages-gain}
+use Rattle.safety.proofs.PagesChange.{Gains, pages-gain}
 use Rattle.safety.proofs.ReadersShow.{Seen}
 
 -- granted steps one after the other, each from rows and messages that keep their rules; a refused step changes nothing and is left out

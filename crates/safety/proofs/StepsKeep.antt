@@ -22,8 +22,8 @@ use Rattle.readers.specs.declared.answer.Noted.{Noted}
 use Rattle.readers.specs.Notes.{noteVoteOf, noteBlankOf}
 use Rattle.readers.specs.Learning.{Learns}
 use Rattle.history.specs.History.{Offer, History, Grows}
-use Rattle.safety.proofs.Messages.{Message, propose, oneA, oneB, twoS, twoA, twoB, Says}
-use Rattle.safety.proofs.Rows.{CoordinatorTrue, BoxTrue, RackTrue, ReaderTrue}
+use Rattle.safety.proofs.TrueMessages.{Message, propose, oneA, oneB, twoS, twoA, twoB, Says}
+use Rattle.safety.proofs.TrueRows.{CoordinatorTrue, BoxTrue, RackTrue, ReaderTrue}
 use Rattle.safety.proofs.Moved.{Agent, coordinator, box, rack, reader, Stepped}
 use Rattle.safety.proofs.InRange.{small-coordinator}
 use Rattle.safety.proofs.RackSteps.{offer-moves, prepare-moves, fast-moves, blank-moves}

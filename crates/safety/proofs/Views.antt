@@ -10,8 +10,8 @@ use Rattle.records.specs.declared.rows.BoxRow.{BoxRow}
 use Rattle.records.specs.declared.rows.RackRow.{RackRow}
 use Rattle.records.specs.declared.rows.ReaderRow.{ReaderRow}
 use Rattle.history.specs.History.{Offer, History}
-use Rattle.safety.proofs.Messages.{Message, Says, says-stays}
-use Rattle.safety.proofs.Rows.{CoordinatorTrue, BoxTrue, RackTrue, ReaderTrue, coordinator-stays, box-stays, rack-stays, reader-stays}
+use Rattle.safety.proofs.TrueMessages.{Message, Says, says-stays}
+use Rattle.safety.proofs.TrueRows.{CoordinatorTrue, BoxTrue, RackTrue, ReaderTrue, coordinator-stays, box-stays, rack-stays, reader-stays}
 use Rattle.safety.proofs.Moved.{Agent, coordinator, box, rack, reader, agent-discrete, SoundHall, Moved}
 
 -- the rows by number, and which messages can still be handed over

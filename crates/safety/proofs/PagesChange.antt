@@ -1,10 +1,10 @@
--- Pages only gain lines: no step but a learn of the reader changes its page, and a learn extends it or leaves it.
+-- A reader's page changes only by a granted learn of that reader, and so it only gains lines.
 use Prim.Native.Nat.{ℕ, _<_}
 use native.Mathlib.Omega.{arith}
 use native.Mathlib.Decide.{ℕ-discrete}
 use mathlib.Core.Path.{_≡_, ap, _∙_}
 use mathlib.Core.Bool.{true}
-use mathlib.Core.Logic.{_≢_}
+use mathlib.Core.Logic.{_⊎_, inl, inr, ⊎-elim, _≢_}
 use mathlib.Core.List.{List}
 use Rattle.below.specs.Refusals.{granted}
 use Rattle.pages.specs.Pages.{prefixOf}
@@ -19,7 +19,7 @@ use Rattle.readers.specs.Notes.{noteVoteRow, noteVoteOf, noteBlankRow, noteBlan
 use Rattle.readers.specs.Learning.{Learns, tooFew, notCompatible, allNil, learnt}
 use Rattle.readers.proofs.GrantedNotes.{note-vote-granted, note-blank-granted}
 use Rattle.history.specs.History.{Offer}
-use Rattle.safety.proofs.Messages.{Message}
+use Rattle.safety.proofs.TrueMessages.{Message}
 use Rattle.safety.proofs.Moved.{Agent, coordinator, box, rack, reader}
 use Rattle.safety.proofs.Views.{View, Changes}
 use Rattle.safety.proofs.StepsKeep.{Grants, offer, start, join, hear, opening, prepare, fast, blank, takePage, takeReading, noteVote, noteBlank, learn}
@@ -31,6 +31,14 @@ note-vote-page r b m h = ap (λ (x : ReaderRow). x .page) (note-vote-granted r b
 note-blank-page : (r : ReaderRow) (k : ℕ) (m : TwoA) → noteBlankOf r k m .refusal ≡ granted → noteBlankOf r k m .row .page ≡ r .page
 unfolding noteBlankRow
 note-blank-page r k m h = ap (λ (x : ReaderRow). x .page) (note-blank-granted r k m h .row-is)
+
+-- the rule for learning gave the reader's new page
+pub record Learnt (s : Setup) (hall hall′ : View) (i : ℕ) : Type 0 where
+  pub round : Round
+  pub answer : Noted
+  pub learns : Learns s (hall .readers i) round answer
+  pub was-granted : answer .refusal ≡ granted
+  pub row-is : hall′ .readers i ≡ answer .row
 
 learn-gains : (s : Setup) (r : ReaderRow) (round : Round) {a : Noted} → Learns s r round a → prefixOf (r .page) (a .row .page) ≡ true
 learn-gains s r round (tooFew n) = prefix-of-refl (r .page)
@@ -55,33 +63,42 @@ reader-apart j i n e = n (cc)
 abbrev pub Gains : View → View → ℕ → Type 0
 Gains hall hall′ i = prefixOf (hall .readers i .page) (hall′ .readers i .page) ≡ true
 
+-- the page is as it was, or was learnt
+abbrev pub PageChange : Setup → View → View → ℕ → Type 0
+PageChange s hall hall′ i = (hall′ .readers i .page ≡ hall .readers i .page) ⊎ Learnt s hall hall′ i
+
 module _ (s : Setup) (hall hall′ : View) where
-  same-page : (i : ℕ) → hall′ .readers i .page ≡ hall .readers i .page → Gains hall hall′ i
-  same-page i e = rw e (prefix-of-refl (hall .readers i .page))
+  by-other : {who : Agent} {New : Message → Type 0} → Changes s who New hall hall′ → (i : ℕ) → i < s .readers → who ≢ reader i →
+      PageChange s hall hall′ i
+  by-other d i l n = inl (ap (λ (r : ReaderRow). r .page) (d .readers i l n))
 
-  by-other : {who : Agent} {New : Message → Type 0} → Changes s who New hall hall′ → (i : ℕ) → i < s .readers → who ≢ reader i → Gains hall hall′ i
-  by-other d i l n = same-page i (ap (λ (r : ReaderRow). r .page) (d .readers i l n))
-
-  by-reader : {New : Message → Type 0} (j : ℕ) → Changes s (reader j) New hall hall′ → Gains hall hall′ j → (i : ℕ) → i < s .readers → Gains hall hall′ i
+  by-reader : {New : Message → Type 0} (j : ℕ) → Changes s (reader j) New hall hall′ → PageChange s hall hall′ j → (i : ℕ) → i < s .readers →
+      PageChange s hall hall′ i
   by-reader j d own i l = go (ℕ-discrete i j)
     where
-      go : Dec (i ≡ j) → Gains hall hall′ i
+      go : Dec (i ≡ j) → PageChange s hall hall′ i
       go (yes e) = rw e own
       go (no n) = by-other d i l (reader-apart j i n)
 
+  pub page-changes : {offered : List Offer} → Grants s hall hall′ offered → (i : ℕ) → i < s .readers → PageChange s hall hall′ i
+  page-changes (offer k v l e d) i x = by-other d i x (rack-apart k i)
+  page-changes (start c n cf l h e d) i x = by-other d i x (coordinator-apart c i)
+  page-changes (join b c m l p h e d) i x = by-other d i x (box-apart b i)
+  page-changes (hear c b m l p h e d) i x = by-other d i x (coordinator-apart c i)
+  page-changes (opening c l h e d) i x = by-other d i x (coordinator-apart c i)
+  page-changes (prepare k c m l p h e d) i x = by-other d i x (rack-apart k i)
+  page-changes (fast k j m l p h e d) i x = by-other d i x (rack-apart k i)
+  page-changes (blank k j m l p h e d) i x = by-other d i x (rack-apart k i)
+  page-changes (takePage b c m l p h e d) i x = by-other d i x (box-apart b i)
+  page-changes (takeReading b k m l p h e d) i x = by-other d i x (box-apart b i)
+  page-changes (noteVote j b m l p h e d) i x =
+      by-reader j d (inl (ap (λ (r : ReaderRow). r .page) e ∙ note-vote-page (hall .readers j) b m h)) i x
+  page-changes (noteBlank j k m l p h e d) i x =
+      by-reader j d (inl (ap (λ (r : ReaderRow). r .page) e ∙ note-blank-page (hall .readers j) k m h)) i x
+  page-changes (learn j round a l y h e d) i x =
+      by-reader j d (inr (record { round = round; answer = a; learns = y; was-granted = h; row-is = e })) i x
+
   pub pages-gain : {offered : List Offer} → Grants s hall hall′ offered → (i : ℕ) → i < s .readers → Gains hall hall′ i
-  pages-gain (offer k v l e d) i x = by-other d i x (rack-apart k i)
-  pages-gain (start c n cf l h e d) i x = by-other d i x (coordinator-apart c i)
-  pages-gain (join b c m l p h e d) i x = by-other d i x (box-apart b i)
-  pages-gain (hear c b m l p h e d) i x = by-other d i x (coordinator-apart c i)
-  pages-gain (opening c l h e d) i x = by-other d i x (coordinator-apart c i)
-  pages-gain (prepare k c m l p h e d) i x = by-other d i x (rack-apart k i)
-  pages-gain (fast k j m l p h e d) i x = by-other d i x (rack-apart k i)
-  pages-gain (blank k j m l p h e d) i x = by-other d i x (rack-apart k i)
-  pages-gain (takePage b c m l p h e d) i x = by-other d i x (box-apart b i)
-  pages-gain (takeReading b k m l p h e d) i x = by-other d i x (box-apart b i)
-  pages-gain (noteVote j b m l p h e d) i x =
-      by-reader j d (same-page j (ap (λ (r : ReaderRow). r .page) e ∙ note-vote-page (hall .readers j) b m h)) i x
-  pages-gain (noteBlank j k m l p h e d) i x =
-      by-reader j d (same-page j (ap (λ (r : ReaderRow). r .page) e ∙ note-blank-page (hall .readers j) k m h)) i x
-  pages-gain (learn j round a l y h e d) i x = by-reader j d (rw e (learn-gains s (hall .readers j) round y)) i x
+  pages-gain g i x =
+      ⊎-elim (λ e. rw e (prefix-of-refl (hall .readers i .page))) (λ w. rw (w .row-is) (learn-gains s (hall .readers i) (w .round) (w .learns)))
+      (page-changes g i x)

@@ -24,8 +24,8 @@ use Rattle.history.specs.Moves.{fresh}
 use Rattle.history.proofs.Lines.{absent-or-present, at-empty}
 use Rattle.history.proofs.Updates.{put-same, put-other}
 use Rattle.history.proofs.FreshIsSound.{fresh-sound}
-use Rattle.safety.proofs.Messages.{Message}
-use Rattle.safety.proofs.Rows.{CoordinatorTrue, BoxTrue, RackTrue, ReaderTrue}
+use Rattle.safety.proofs.TrueMessages.{Message}
+use Rattle.safety.proofs.TrueRows.{CoordinatorTrue, BoxTrue, RackTrue, ReaderTrue}
 use Rattle.safety.proofs.Slots.{equal-slots}
 use Rattle.safety.proofs.Views.{View, Kept}
 
