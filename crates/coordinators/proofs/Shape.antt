@@ -7,10 +7,9 @@ use mathlib.Core.Bool.{Bool, true, false, cond}
 use mathlib.Core.Logic.{⊎-elim}
 use Rattle.below.specs.Refusals.{granted}
 use Rattle.below.proofs.Rows.{length-row, row-at}
-use Rattle.pages.specs.declared.page.Page.{Page}
-use Rattle.pages.specs.Racks.{mostRacks, racksBelow}
+use Rattle.pages.specs.Racks.{racksBelow}
 use Rattle.pages.specs.Pages.{empty, nilExtension}
-use Rattle.pages.proofs.Kept.{empty-shape, nil-shape}
+use Rattle.pages.proofs.Kept.{Whole, empty-whole, nil-whole}
 use Rattle.rounds.specs.declared.setup.Setup.{Setup}
 use Rattle.rounds.specs.Setups.{mostBoxes}
 use Rattle.rounds.specs.Rounds.{roundOf}
@@ -24,13 +23,10 @@ use Rattle.coordinators.specs.declared.answer.Opened.{Opened}
 use Rattle.coordinators.specs.Steps.{noOneA, noTwoS, startRefusal, startRow, startOf, hearRefusal, hearRow, hearOf, anyVote, joinedVotes, openPage, openRefusal, openRow, openOf}
 use Rattle.coordinators.proofs.Slots.{slot-set}
 
-abbrev pub Lines8 : Page → Type 0
-Lines8 p = length (p .lines) ≡ mostRacks
-
 pub record CoordinatorShape (r : CoordinatorRow) : Type 0 where
-  pub opened : Lines8 (r .cval .page)
+  pub opened : Whole (r .cval .page)
   pub slots : length (r .heard) ≡ mostBoxes
-  pub votes : (box : ℕ) → box < mostBoxes → Lines8 (heardAt r box .vote .page)
+  pub votes : (box : ℕ) → box < mostBoxes → Whole (heardAt r box .vote .page)
 
 pub start-shape : (agent : ℕ) (r : CoordinatorRow) (n cf : ℕ) → CoordinatorShape r → CoordinatorShape (startOf agent r n cf .row)
 unfolding startOf startRow heardAt
@@ -44,13 +40,13 @@ start-shape agent r n cf h = go (eqb (startRefusal r (roundOf n agent cf)) grant
     go : (b : Bool) → CoordinatorShape (answer b .row)
     go true =
         record {
-          opened = empty-shape;
+          opened = empty-whole;
           slots = length-row mostBoxes (λ box. noHeard);
-          votes = λ box l. ap (λ (x : Heard). length (x .vote .page .lines)) (row-at mostBoxes (λ b. noHeard) box _ l) ∙ empty-shape;
+          votes = λ box l. ap (λ (x : Heard). length (x .vote .page .lines)) (row-at mostBoxes (λ b. noHeard) box _ l) ∙ empty-whole;
         }
     go false = h
 
-pub hear-shape : (r : CoordinatorRow) (box : ℕ) (m : OneB) → CoordinatorShape r → Lines8 (m .vote .page) → CoordinatorShape (hearOf r box m .row)
+pub hear-shape : (r : CoordinatorRow) (box : ℕ) (m : OneB) → CoordinatorShape r → Whole (m .vote .page) → CoordinatorShape (hearOf r box m .row)
 unfolding hearOf hearRow heardAt
 hear-shape r box m h p = go (eqb (hearRefusal r box m) granted)
   where
@@ -72,16 +68,16 @@ hear-shape r box m h p = go (eqb (hearRefusal r box m) granted)
         }
     go false = h
 
-open-page-shape : (s : Setup) (r : CoordinatorRow) → Lines8 (openPage s r)
+open-page-shape : (s : Setup) (r : CoordinatorRow) → Whole (openPage s r)
 unfolding openPage
 open-page-shape s r = go (anyVote r)
   where
-    go : (b : Bool) → Lines8 (cond b (nilExtension (racksBelow (s .racks)) (joinedVotes r .page)) empty)
-    go true = nil-shape (racksBelow (s .racks)) (joinedVotes r .page)
-    go false = empty-shape
+    go : (b : Bool) → Whole (cond b (nilExtension (racksBelow (s .racks)) (joinedVotes r .page)) empty)
+    go true = nil-whole (racksBelow (s .racks)) (joinedVotes r .page)
+    go false = empty-whole
 
 pub open-shape : (s : Setup) (agent : ℕ) (r : CoordinatorRow) → CoordinatorShape r →
-    CoordinatorShape (openOf s agent r .row) × Lines8 (openOf s agent r .sent .page)
+    CoordinatorShape (openOf s agent r .row) × Whole (openOf s agent r .sent .page)
 unfolding openOf openRow heardAt
 open-shape s agent r h = go (eqb (openRefusal s agent r) granted)
   where
@@ -90,6 +86,6 @@ open-shape s agent r h = go (eqb (openRefusal s agent r) granted)
         cond b (record { refusal = granted; row = openRow r (openPage s r); sent = record { round = r .crnd; page = openPage s r } })
         (record { refusal = openRefusal s agent r; row = r; sent = noTwoS })
 
-    go : (b : Bool) → CoordinatorShape (answer b .row) × Lines8 (answer b .sent .page)
+    go : (b : Bool) → CoordinatorShape (answer b .row) × Whole (answer b .sent .page)
     go true = (record { opened = open-page-shape s r; slots = h .slots; votes = h .votes }, open-page-shape s r)
-    go false = (h, empty-shape)
+    go false = (h, empty-whole)

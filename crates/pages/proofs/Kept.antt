@@ -89,19 +89,22 @@ valued-not-empty v h = not-true-false (emptyOf v) (λ e. true≢false (sym (empt
     w : (k : ℕ) × (k < mostRacks) × (isReading (at v k) ≡ true)
     w = valued-lines v h
 
--- a page that an operation built has its eight lines
-pub page-lines : (f : ℕ → Mark) → length (page f .lines) ≡ mostRacks
+-- a page has its eight lines; one that an operation built has them whatever it was built from
+abbrev pub Whole : Page → Type 0
+Whole p = length (p .lines) ≡ mostRacks
+
+pub page-whole : (f : ℕ → Mark) → Whole (page f)
 unfolding page
-page-lines f = length-row mostRacks (λ rack. line (f rack))
+page-whole f = length-row mostRacks (λ rack. line (f rack))
 
-pub empty-shape : length (empty .lines) ≡ mostRacks
+pub empty-whole : Whole empty
 unfolding empty
-empty-shape = page-lines (λ rack. Absent)
+empty-whole = page-whole (λ rack. Absent)
 
-pub append-shape : (v : Page) (rack : ℕ) (m : Mark) → length (appendOf v rack m .lines) ≡ mostRacks
+pub append-whole : (v : Page) (rack : ℕ) (m : Mark) → Whole (appendOf v rack m)
 unfolding appendOf
-append-shape v rack m = page-lines (λ k. cond (eqb k rack) (appendMark (at v k) m) (at v k))
+append-whole v rack m = page-whole (λ k. cond (eqb k rack) (appendMark (at v k) m) (at v k))
 
-pub nil-shape : (over : ℕ → Bool) (v : Page) → length (nilExtension over v .lines) ≡ mostRacks
+pub nil-whole : (over : ℕ → Bool) (v : Page) → Whole (nilExtension over v)
 unfolding nilExtension
-nil-shape over v = page-lines (λ k. cond (over k) (appendMark (at v k) Nil) (at v k))
+nil-whole over v = page-whole (λ k. cond (over k) (appendMark (at v k) Nil) (at v k))
