@@ -1,5 +1,5 @@
 pub mod Ways
-pub mod AgreedLine
+pub mod First
 pub mod CountedWays
 pub mod HeldAtRound
 pub mod ChosenLines
