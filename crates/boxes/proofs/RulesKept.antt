@@ -1,17 +1,15 @@
 -- The rules are kept: a good row and a good message give, where the step is granted, a good row and a good message sent.
 use Prim.Native.Nat.{ℕ, _<_}
 use native.Mathlib.Omega.{arith}
-use lib.Dec.{ltb}
 use borrow.Author.Tests.{not-true, not-false, lt-ltb}
 use mathlib.Core.Path.{_≡_, refl, sym, ap, subst, _∙_}
 use mathlib.Core.Bool.{Bool, true, false, cond, not, _&&_, _||_, true≢false}
 use mathlib.Core.Logic.{_⊎_, inl, inr, ⊎-elim}
 use Rattle.below.specs.Refusals.{granted}
-use Rattle.below.proofs.Tests.{and-true, and-left, and-right, and-false-left, or-cases, not-true-false, or-true-right}
-use Rattle.pages.specs.declared.line.Mark.the-variants.{Reading as reads}
+use Rattle.below.proofs.Tests.{and-true, and-left, and-right, and-false-left, not-true-false, or-true-right}
 use Rattle.pages.specs.declared.page.Page.{Page}
 use Rattle.pages.specs.Lines.{isReading, isAbsent, markInRange}
-use Rattle.pages.specs.Racks.{mostRacks, racksBelow, outside, has}
+use Rattle.pages.specs.Racks.{racksBelow, outside, has}
 use Rattle.pages.specs.Pages.{empty, appendOf, nilExtension, valuedOf}
 use Rattle.pages.proofs.Kept.{empty-within, append-within, nil-within, prefix-valued, append-prefix, nil-prefix, one-reading-valued}
 use Rattle.rounds.specs.declared.round.Round.{Round}
@@ -20,7 +18,7 @@ use Rattle.rounds.specs.declared.order.Order.{Order}
 use Rattle.rounds.specs.declared.order.Order.the-variants.{Below, Equal, Above, Clash}
 use Rattle.rounds.specs.Setups.{setupInRange}
 use Rattle.rounds.specs.Rounds.{roundInRange, orderOf, isBelow, isAbove, isClash}
-use Rattle.rounds.proofs.Ordered.{Lower, Compared, compared, lower-irrefl, lower-trans, lower-below, lower-above, equal-order}
+use Rattle.rounds.proofs.Ordered.{Lower, Compared, compared, lower-trans, lower-below, lower-above, equal-order}
 use Rattle.records.specs.declared.messages.OneA.{OneA}
 use Rattle.records.specs.declared.messages.TwoS.{TwoS}
 use Rattle.records.specs.declared.messages.TwoA.{TwoA}

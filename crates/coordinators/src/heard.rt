@@ -3,6 +3,7 @@ use below::both;
 use records::BOXES;
 use records::CoordinatorRow;
 use records::Heard;
+ghost use Prim.Native.Nat.{_≤_};
 ghost use mathlib.Core.Path.{_≡_};
 ghost use mathlib.Core.Bool.{cond};
 ghost use Rattle.below.specs.Below.{any, count};
@@ -92,7 +93,7 @@ pub fn is_highest(row: CoordinatorRow, mine: Heard) -> bool
 }
 
 fn one_if(hit: bool) -> u8
-    ensures { λ r. ⌜ r ≡ cond hit 1 0 ⌝ }
+    ensures { λ r. ⌜ (r ≡ cond hit 1 0) × (r ≤ 1) ⌝ }
 {
     if hit { 1 } else { 0 }
 }

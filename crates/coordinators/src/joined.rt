@@ -16,7 +16,8 @@ fn join_more(takes: bool, page: Page, votes: Vote) -> Vote
     ensures { λ r. ⌜ r ≡ joinMore takes page votes ⌝ }
 {
     if both(takes, votes.some) {
-        page.join(votes.page)
+        let joined = votes.page;
+        joined.join(page)
     } else {
         votes
     }

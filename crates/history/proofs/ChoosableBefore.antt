@@ -10,7 +10,7 @@ use Rattle.below.proofs.Tests.{not-true-false}
 use Rattle.pages.specs.declared.line.Mark.{Mark}
 use Rattle.pages.specs.Lines.{isReading}
 use Rattle.history.specs.History.{History, Blank, Blankable, Shows, Bears, Choosable, Chosen, Grows}
-use Rattle.history.proofs.Lines.{reading-present}
+use Rattle.pages.proofs.Lines.{reading-present}
 use Rattle.history.proofs.MajoritiesMeet.{most-map}
 
 pub shows-map : {blank blank′ : Type 0} (line m : Mark) → (blank → blank′) → Shows blank line m → Shows blank′ line m

@@ -13,7 +13,7 @@ use Rattle.pages.specs.declared.page.Page.{Page}
 use Rattle.pages.specs.Pages.{at}
 use Rattle.history.specs.History.{_∈_, History, Chosen}
 use Rattle.history.specs.Sound.{Sound}
-use Rattle.history.proofs.Lines.{reading-present}
+use Rattle.pages.proofs.Lines.{reading-present}
 use Rattle.history.proofs.MajoritiesMeet.{most-some}
 use Rattle.history.proofs.ChoosableBefore.{bears-blankable, chosen-choosable}
 use Rattle.history.proofs.VotesAgree.{bears-agree}

@@ -17,7 +17,8 @@ use Rattle.pages.specs.Pages.{at, prefixOf, valuedOf}
 use Rattle.history.specs.History.{_∈_, History, Shows, Bears, Most, Choosable, Offered, Present, Blankable}
 use Rattle.history.specs.Sound.{Whole, Sound}
 use Rattle.history.specs.Reports.{LastVote, Told, Hearing, pageOf, Heard, VotedAt, GatheredLine, Gathered}
-use Rattle.history.proofs.Lines.{absent-or-present, nil-or-reading, reading-present, prefix-at, at-valued}
+use Rattle.history.proofs.Lines.{absent-or-present, nil-or-reading, prefix-at, at-valued}
+use Rattle.pages.proofs.Lines.{reading-present}
 use Rattle.history.proofs.MajoritiesMeet.{most-meet}
 use Rattle.history.proofs.VotesAgree.{bears-agree, votes-agree}
 use Rattle.history.proofs.VotesAreSafe.{vote-safe}

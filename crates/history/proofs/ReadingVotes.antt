@@ -18,7 +18,8 @@ use Rattle.pages.specs.Pages.{at, empty, appendOf, nilExtension, prefixOf, valu
 use Rattle.history.specs.History.{_∈_, Present}
 use Rattle.history.specs.Sound.{tried, FreeVote, Chain}
 use Rattle.history.specs.Moves.{readingVote}
-use Rattle.history.proofs.Lines.{absent-or-present, prefix-trans, at-valued, valued-extends, at-empty}
+use Rattle.history.proofs.Lines.{absent-or-present, at-valued, valued-extends, at-empty}
+use Rattle.pages.proofs.PageLaws.{prefix-of-trans}
 use Rattle.history.proofs.Lines.{append-extends, append-at, append-lines, extension-extends, extension-lines}
 use Rattle.history.proofs.VotesAreChains.{newest-extends}
 
@@ -80,4 +81,4 @@ module _ (P cf : ℕ) (said : ℕ → Mark) (k : ℕ) (v : Reading) where
 
   pub reading-extends : (votes : List Page) → Chain votes → (q : Page) → q ∈ votes → prefixOf q (readingVote cf P k v votes) ≡ true
   reading-extends [] c q w = absurd (List·Memᴰ·not-nil w)
-  reading-extends (n ∷ older) c q w = prefix-trans q n _ (newest-extends n q older c w) (append-extends n k (reads v))
+  reading-extends (n ∷ older) c q w = prefix-of-trans q n _ (newest-extends n q older c w) (append-extends n k (reads v))

@@ -9,7 +9,8 @@ use Rattle.pages.specs.Lines.{isReading}
 use Rattle.pages.specs.Pages.{at, valuedOf}
 use Rattle.history.specs.History.{_∈_, Opened, shut, free, fixed, Offer, History, Present}
 use Rattle.history.specs.Sound.{Fits, Grounded, Sound}
-use Rattle.history.proofs.Lines.{reading-present, valued-at}
+use Rattle.pages.proofs.Lines.{reading-present}
+use Rattle.pages.proofs.PageLaws.{valued-lines}
 
 fits-valued : (P : ℕ) (said : ℕ → Mark) (offers : List Offer) (o : Opened) (p : Page) → Grounded P offers o → Fits P o said p →
     (valuedOf p ≡ true) × ((k : ℕ) → Present (at p k) → k < P)
@@ -26,4 +27,4 @@ module _ {P A : ℕ} {H : History} (S : Sound P A H) (b r : ℕ) (p : Page) (v :
 
   -- the reading stands on the line of a rack of the hall
   pub vote-reads : (k : ℕ) × (k < P) × (isReading (at p k) ≡ true)
-  vote-reads = let (k, _, e) = valued-at p vote-valued in (k, vote-within k (reading-present (at p k) e), e)
+  vote-reads = let (k, _, e) = valued-lines p vote-valued in (k, vote-within k (reading-present (at p k) e), e)

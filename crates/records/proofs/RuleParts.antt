@@ -1,15 +1,15 @@
 -- The rules that several kinds share, taken apart and put together: what the laws 'rules kept' of the steps go by.
 use Prim.Native.Nat.{ℕ, _≤_, _<_}
-use lib.Dec.{leb, ltb, eqb}
-use borrow.Author.Tests.{ltb-true, leb-true, eqb-true, lt-ltb, eq-eqb}
+use lib.Dec.{ltb, eqb}
+use borrow.Author.Tests.{leb-true, lt-ltb, eq-eqb}
 use mathlib.Core.Path.{_≡_, refl, sym, subst, _∙_}
 use mathlib.Core.Bool.{Bool, true, false, cond, _&&_, _||_, true≢false}
-use mathlib.Core.Logic.{_⊎_, inl, inr, ⊎-elim}
+use mathlib.Core.Logic.{⊎-elim}
 use Rattle.below.proofs.Tests.{and-true, and-left, and-right, or-cases, or-true-left, or-true-right}
 use Rattle.pages.specs.declared.page.Page.{Page}
 use Rattle.pages.specs.declared.page.Vote.{Vote}
 use Rattle.pages.specs.Racks.{racksBelow}
-use Rattle.pages.specs.Pages.{completeOf, valuedOf, emptyOf, withinOf, some, none}
+use Rattle.pages.specs.Pages.{completeOf, valuedOf, emptyOf, some}
 use Rattle.rounds.specs.declared.round.Round.{Round}
 use Rattle.rounds.specs.declared.setup.Setup.{Setup}
 use Rattle.rounds.specs.Setups.{setupInRange, oneTo, mostRacks, mostBoxes}

@@ -1,0 +1,3 @@
+pub mod Framing
+pub mod Judged
+pub mod Answered

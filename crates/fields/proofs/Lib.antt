@@ -1,0 +1,5 @@
+pub mod Cuts
+pub mod Lawful
+pub mod Times
+pub mod Fitted
+pub mod Joined

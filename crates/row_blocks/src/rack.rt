@@ -1,0 +1,99 @@
+// 19 rack: prnd and pval.
+ghost use mathlib.Core.Path.{_≡_};
+ghost use mathlib.Core.List.{[]};
+ghost use Rattle.blocks.specs.Kinds.{decode};
+ghost use Rattle.blocks.specs.Answers.{Reads, Writes};
+ghost use Rattle.row_blocks.specs.Rows.{rack};
+use below::both;
+use blocks::BLOCK;
+use blocks::NO_STAMP;
+use blocks::framed;
+use blocks::put_stamp;
+use blocks::read_stamp;
+use blocks::seal;
+use fields::put_line;
+use fields::put_round;
+use fields::read_line;
+use fields::read_round;
+use pages::Line;
+use pages::Mark;
+use records::RackRow;
+use records::Stamp;
+use rounds::Number;
+use rounds::Round;
+
+pub const KIND: u8 = 19;
+
+// Where the fields stand, and where the body ends.
+const PRND: usize = 10;
+
+const PVAL: usize = 14;
+
+const END: usize = 19;
+
+pub struct RackRowRead {
+    pub refusal: u8,
+    pub stamp: Stamp,
+    pub body: RackRow,
+}
+
+fn refused(refusal: u8) -> RackRowRead
+    ensures { λ r. ⌜ (r .refusal ≡ refusal) × ((r .stamp, r .body) ≡ decode rack []) ⌝ }
+{
+    RackRowRead {
+        refusal,
+        stamp: NO_STAMP,
+        body: RackRow {
+            prnd: Round {
+                n: Number(0),
+                c: 0,
+                cf: 0,
+            },
+            pval: Line { mark: Mark::Absent },
+        },
+    }
+}
+
+pub fn read_rack(block: &[u8]) -> RackRowRead
+    ensures { λ r. ⌜ Reads rack (now (block .entry)) (r .refusal) (r .stamp) (r .body) ⌝ }
+{
+    if block.len() != BLOCK {
+        return refused(1);
+    }
+    let stamp = read_stamp(block);
+    let setup = stamp.setup;
+    let prnd = read_round(block, PRND);
+    let pval_read = read_line(block, PVAL);
+    let pval = pval_read.value;
+    let body = RackRow { prnd, pval };
+    let exact = both(pval_read.exact, framed(block, KIND, END));
+    let rules = both(stamp.rules(setup.racks), body.rules(setup, stamp.agent));
+    if both(exact, rules) {
+        RackRowRead {
+            refusal: 0,
+            stamp,
+            body,
+        }
+    } else {
+        refused(2)
+    }
+}
+
+pub fn write_rack(block: &mut [u8], stamp: Stamp, body: RackRow) -> u8
+    ensures { λ r. ⌜ Writes rack stamp body (now (block .entry)) (now (block .exit)) r ⌝ }
+{
+    if block.len() != BLOCK {
+        return 1;
+    }
+    let setup = stamp.setup;
+    if !both(stamp.rules(setup.racks), body.rules(setup, stamp.agent)) {
+        return 2;
+    }
+    let prnd = body.prnd;
+    let pval = body.pval;
+    put_stamp(block, KIND, stamp);
+    put_round(block, PRND, prnd);
+    put_line(block, PVAL, pval);
+    seal(block, END);
+    0
+}
