@@ -1,9 +1,9 @@
 -- What a granted step of a box says: the tests that held, the row and the message. A refused step gives the row back.
 use Prim.Native.Nat.{ℕ}
 use native.Mathlib.Omega.{arith}
-use borrow.Author.Tests.{not-true, not-false}
+use borrow.Author.Tests.{not-true}
 use mathlib.Core.Path.{_≡_, refl, sym, ap, subst, _∙_}
-use mathlib.Core.Bool.{Bool, true, false, cond, not, _&&_, _||_}
+use mathlib.Core.Bool.{true, false, not, _&&_, _||_}
 use mathlib.Core.Logic.{_⊎_, ⊎-elim}
 use Rattle.below.specs.Refusals.{unless, granted, wrongMessage, wrongRound, alreadyDone}
 use Rattle.below.proofs.Granted.{unless-held, unless-later, answer-granted, answer-refused, answer-number}
@@ -18,7 +18,7 @@ use Rattle.pages.proofs.Lines.{reading-is}
 use Rattle.rounds.specs.declared.round.Round.{Round}
 use Rattle.rounds.specs.declared.setup.Setup.{Setup}
 use Rattle.rounds.specs.declared.order.Order.{Order}
-use Rattle.rounds.specs.Rounds.{orderOf, isBelow, isEqual, isAbove, isClash, isUpTo}
+use Rattle.rounds.specs.Rounds.{orderOf, isBelow, isEqual, isClash, isUpTo}
 use Rattle.rounds.proofs.Ordered.{Lower, above-is, up-to-is, lower-below, equal-order}
 use Rattle.records.specs.declared.messages.OneA.{OneA}
 use Rattle.records.specs.declared.messages.TwoS.{TwoS}
@@ -28,7 +28,11 @@ use Rattle.boxes.specs.declared.answer.Joined.{Joined}
 use Rattle.boxes.specs.declared.answer.Taken.{Taken}
 use Rattle.boxes.specs.Steps.{noOneB, noTwoB, joinRefusal, joinRow, joinSent, joinOf, mayVote, voted, telling, taken, takePageRefusal, takePageOf, takeReadingRefusal, takeReadingPage, takeReadingOf}
 
--- 3 join
+-- 3 join: the number answered is that of the first condition that fails
+pub join-number : (row : BoxRow) (m : OneA) → joinOf row m .refusal ≡ joinRefusal row m
+unfolding joinOf
+join-number row m = answer-number (λ (a : Joined). a .refusal) (joinRefusal row m) _ _ refl refl
+
 pub record JoinGranted (row : BoxRow) (m : OneA) : Type 0 where
   pub above : Lower (row .rnd) (m .round)
   pub row-is : joinOf row m .row ≡ record { rnd = m .round; vrnd = row .vrnd; vval = row .vval }
@@ -44,7 +48,7 @@ join-granted row m h =
     }
   where
     number : joinRefusal row m ≡ granted
-    number = sym (answer-number (λ (a : Joined). a .refusal) (joinRefusal row m) _ _ refl refl) ∙ h
+    number = sym (join-number row m) ∙ h
 
     answer : joinOf row m ≡ record { refusal = granted; row = joinRow row m; sent = joinSent row m }
     answer = answer-granted (joinRefusal row m) _ _ number
@@ -55,8 +59,8 @@ unfolding joinOf
 join-refused row m h = answer-refused (joinRefusal row m) _ _ h
 
 -- a box that votes was not refused, and one that was refused tells nothing
-taken-number : (number : ℕ) (row : BoxRow) (round : Round) (page : Page) → taken number row round page .refusal ≡ granted → number ≡ granted
-taken-number number row round page h = sym (answer-number (λ (a : Taken). a .refusal) number _ _ refl refl) ∙ h
+taken-number : (number : ℕ) (row : BoxRow) (round : Round) (page : Page) → taken number row round page .refusal ≡ number
+taken-number number row round page = answer-number (λ (a : Taken). a .refusal) number _ _ refl refl
 
 taken-granted : (number : ℕ) (row : BoxRow) (round : Round) (page : Page) → number ≡ granted →
     taken number row round page ≡ record { refusal = granted; row = voted round page; sent = telling round page }
@@ -74,6 +78,10 @@ pub may-no-clash : (row : BoxRow) (round : Round) → mayVote row round ≡ true
 may-no-clash row round h = not-true _ (and-right (isUpTo (orderOf (row .rnd) round)) _ h)
 
 -- 9 take page
+pub take-page-number : (row : BoxRow) (m : TwoS) → takePageOf row m .refusal ≡ takePageRefusal row m
+unfolding takePageOf
+take-page-number row m = taken-number (takePageRefusal row m) row (m .round) (m .page)
+
 pub record TakePageGranted (row : BoxRow) (m : TwoS) : Type 0 where
   pub some-line : emptyOf (m .page) ≡ false
   pub may : mayVote row (m .round) ≡ true
@@ -102,7 +110,7 @@ take-page-granted row m h =
     rest = unless (mayVote row (m .round)) wrongRound later
 
     number : takePageRefusal row m ≡ granted
-    number = taken-number (takePageRefusal row m) row (m .round) (m .page) h
+    number = sym (take-page-number row m) ∙ h
 
     number' : rest ≡ granted
     number' = unless-later (not (emptyOf (m .page))) wrongMessage rest (omega arith) number
@@ -116,6 +124,10 @@ unfolding takePageOf
 take-page-refused row m h = taken-refused (takePageRefusal row m) row (m .round) (m .page) h
 
 -- 10 take reading
+pub take-reading-number : (s : Setup) (row : BoxRow) (rack : ℕ) (m : TwoA) → takeReadingOf s row rack m .refusal ≡ takeReadingRefusal row m
+unfolding takeReadingOf
+take-reading-number s row rack m = taken-number (takeReadingRefusal row m) row (m .round) (takeReadingPage s row rack m)
+
 pub record TakeReadingGranted (s : Setup) (row : BoxRow) (rack : ℕ) (m : TwoA) : Type 0 where
   pub reading : (r : Reading.Reading) × (m .line .mark ≡ reads r)
   pub may : mayVote row (m .round) ≡ true
@@ -139,7 +151,7 @@ take-reading-granted s row rack m h =
     page = takeReadingPage s row rack m
 
     number : takeReadingRefusal row m ≡ granted
-    number = taken-number (takeReadingRefusal row m) row (m .round) page h
+    number = sym (take-reading-number s row rack m) ∙ h
 
     answer : takeReadingOf s row rack m ≡ record { refusal = granted; row = voted (m .round) page; sent = telling (m .round) page }
     answer = taken-granted (takeReadingRefusal row m) row (m .round) page number

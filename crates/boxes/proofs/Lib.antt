@@ -1,3 +1,4 @@
 pub mod GrantedSteps
 pub mod RulesKept
+pub mod Shape
 pub mod Unique

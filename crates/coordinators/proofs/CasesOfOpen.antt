@@ -1,9 +1,8 @@
 -- The marked cases of open hold, over any readings.
-use lib.Dec.{eqb}
 use borrow.Author.Tests.{eq-eqb}
 use mathlib.Core.Path.{_≡_, refl}
-use mathlib.Core.Bool.{Bool, true}
-use mathlib.Core.List.{List, [], _∷_}
+use mathlib.Core.Bool.{true}
+use mathlib.Core.List.{[], _∷_}
 use Rattle.below.specs.Below.{all, any, count, row}
 use Rattle.pages.specs.declared.line.Reading as Reading
 use Rattle.pages.specs.Pages.{at, page, empty, compatibleOf, unionOf, joinOf, nilExtension, prefixOf}

@@ -2,7 +2,6 @@
 use Prim.Native.Nat.{ℕ, _≤_}
 use native.Mathlib.Omega.{arith}
 use lib.Dec.{leb, eqb}
-use lib.ListN.{set}
 use borrow.Author.Tests.{eqb-true, leb-true, not-true}
 use mathlib.Core.Path.{_≡_, refl, sym, ap, _∙_}
 use mathlib.Core.Bool.{Bool, true, false, not, _&&_}
@@ -10,10 +9,9 @@ use Rattle.below.specs.Refusals.{unless, granted, wrongRound, alreadyDone, noMa
 use Rattle.below.proofs.Granted.{unless-held, unless-later, answer-granted, answer-refused, answer-number}
 use Rattle.below.proofs.Tests.{and-left, and-right}
 use Rattle.pages.specs.Pages.{some}
-use Rattle.rounds.specs.declared.round.Round.{Round}
 use Rattle.rounds.specs.declared.setup.Setup.{Setup}
 use Rattle.rounds.specs.Setups.{majorityOf}
-use Rattle.rounds.specs.Rounds.{roundOf, orderOf, isEqual, isAbove}
+use Rattle.rounds.specs.Rounds.{roundOf, orderOf, isEqual}
 use Rattle.rounds.proofs.Ordered.{Lower, above-is, equal-is}
 use Rattle.records.specs.declared.messages.OneB.{OneB}
 use Rattle.records.specs.declared.rows.CoordinatorRow.{CoordinatorRow}
@@ -23,7 +21,11 @@ use Rattle.coordinators.specs.declared.answer.Hearing.{Hearing}
 use Rattle.coordinators.specs.declared.answer.Opened.{Opened}
 use Rattle.coordinators.specs.Steps.{noOneA, noTwoS, startRefusal, startRow, startOf, hearRefusal, hearRow, hearOf, anyClash, heardCount, joinedVotes, openPage, openRefusal, openRow, openOf}
 
--- 2 start
+-- 2 start: the number answered is that of the first condition that fails
+pub start-number : (agent : ℕ) (r : CoordinatorRow) (n cf : ℕ) → startOf agent r n cf .refusal ≡ startRefusal r (roundOf n agent cf)
+unfolding startOf
+start-number agent r n cf = answer-number (λ (a : Started). a .refusal) (startRefusal r (roundOf n agent cf)) _ _ refl refl
+
 pub record StartGranted (agent : ℕ) (r : CoordinatorRow) (n cf : ℕ) : Type 0 where
   pub above : Lower (r .crnd) (roundOf n agent cf)
   pub row-is : startOf agent r n cf .row ≡ startRow (roundOf n agent cf)
@@ -39,7 +41,7 @@ start-granted agent r n cf h =
     }
   where
     number : startRefusal r (roundOf n agent cf) ≡ granted
-    number = sym (answer-number (λ (a : Started). a .refusal) (startRefusal r (roundOf n agent cf)) _ _ refl refl) ∙ h
+    number = sym (start-number agent r n cf) ∙ h
 
     answer : startOf agent r n cf ≡ record { refusal = granted; row = startRow (roundOf n agent cf); sent = record { round = roundOf n agent cf } }
     answer = answer-granted (startRefusal r (roundOf n agent cf)) _ _ number
@@ -50,6 +52,10 @@ unfolding startOf
 start-refused agent r n cf h = answer-refused (startRefusal r (roundOf n agent cf)) _ _ h
 
 -- 4 hear
+pub hear-number : (r : CoordinatorRow) (box : ℕ) (m : OneB) → hearOf r box m .refusal ≡ hearRefusal r box m
+unfolding hearOf
+hear-number r box m = answer-number (λ (a : Hearing). a .refusal) (hearRefusal r box m) _ _ refl refl
+
 pub record HearGranted (r : CoordinatorRow) (box : ℕ) (m : OneB) : Type 0 where
   pub same : m .round ≡ r .crnd
   pub not-opened : r .cval .some ≡ false
@@ -70,7 +76,7 @@ hear-granted r box m h =
     later = unless (not (r .cval .some) && not (heardAt r box .filled)) alreadyDone granted
 
     number : hearRefusal r box m ≡ granted
-    number = sym (answer-number (λ (a : Hearing). a .refusal) (hearRefusal r box m) _ _ refl refl) ∙ h
+    number = sym (hear-number r box m) ∙ h
 
     new : not (r .cval .some) && not (heardAt r box .filled) ≡ true
     new = unless-held _ alreadyDone granted (omega arith) (unless-later (isEqual (orderOf (m .round) (r .crnd))) wrongRound later (omega arith) number)
@@ -84,6 +90,10 @@ unfolding hearOf
 hear-refused r box m h = answer-refused (hearRefusal r box m) _ _ h
 
 -- 5 open
+pub open-number : (s : Setup) (agent : ℕ) (r : CoordinatorRow) → openOf s agent r .refusal ≡ openRefusal s agent r
+unfolding openOf
+open-number s agent r = answer-number (λ (a : Opened). a .refusal) (openRefusal s agent r) _ _ refl refl
+
 pub record OpenGranted (s : Setup) (agent : ℕ) (r : CoordinatorRow) : Type 0 where
   pub own : r .crnd .c ≡ agent
   pub no-clash : anyClash r ≡ false
@@ -122,7 +132,7 @@ open-granted s agent r h =
     done = unless (not (r .cval .some)) alreadyDone enough
 
     number : openRefusal s agent r ≡ granted
-    number = sym (answer-number (λ (a : Opened). a .refusal) (openRefusal s agent r) _ _ refl refl) ∙ h
+    number = sym (open-number s agent r) ∙ h
 
     fits : fitting ≡ true
     fits = unless-held fitting wrongRound done (omega arith) number

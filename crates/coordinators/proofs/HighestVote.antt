@@ -2,14 +2,12 @@
 use Prim.Native.Nat.{ℕ, zero, suc, _<_}
 use native.Mathlib.Omega.{arith}
 use mathlib.Core.Path.{_≡_, refl, sym, ap, subst, _∙_}
-use mathlib.Core.Bool.{Bool, true, false, not, _&&_, true≢false, false≢true}
-use mathlib.Core.Logic.{_⊎_, inl, inr, ⊎-elim}
+use mathlib.Core.Bool.{Bool, true, false, not, true≢false, false≢true}
+use mathlib.Core.Logic.{⊎-elim}
 use borrow.Author.Tests.{not-true}
 use Rattle.below.specs.Below.{any}
-use Rattle.below.proofs.Tests.{and-left, and-right, and-true, decided, below-suc, any-at, any-none, any-false, or-cases, not-true-false}
+use Rattle.below.proofs.Tests.{and-left, and-right, and-true, decided, below-suc, any-none, any-false, or-cases, not-true-false}
 use Rattle.rounds.specs.declared.round.Round.{Round}
-use Rattle.rounds.specs.declared.order.Order.{Order}
-use Rattle.rounds.specs.declared.order.Order.the-variants.{Below}
 use Rattle.rounds.specs.Setups.{mostBoxes}
 use Rattle.rounds.specs.Rounds.{orderOf, isBelow, isAbove}
 use Rattle.rounds.proofs.Ordered.{Lower, lower-irrefl, lower-trans, lower-below, lower-above, below-is, above-is}

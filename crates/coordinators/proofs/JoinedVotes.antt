@@ -11,7 +11,7 @@ use Rattle.pages.specs.declared.page.Page.{Page}
 use Rattle.pages.specs.declared.page.Vote.{Vote}
 use Rattle.pages.specs.Lines.{isAbsent, prefixMark, compatibleMark}
 use Rattle.pages.specs.Racks.{mostRacks}
-use Rattle.pages.specs.Pages.{at, empty, some, none, prefixOf, compatibleOf, unionOf, joinOf, withinOf}
+use Rattle.pages.specs.Pages.{at, some, none, prefixOf, compatibleOf, unionOf, joinOf, withinOf}
 use Rattle.pages.proofs.Lines.{append-absent, append-present}
 use Rattle.pages.proofs.Algebra as A
 use Rattle.pages.proofs.PageLaws.{at-empty, at-union, join-some, join-none, union-left, union-right, prefix-of-trans, prefix-lines, lines-compatible, compatible-lines}

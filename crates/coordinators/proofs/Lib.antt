@@ -4,5 +4,6 @@ pub mod JoinedVotes
 pub mod GrantedSteps
 pub mod OpenPage
 pub mod RulesKept
+pub mod Shape
 pub mod Unique
 pub mod CasesOfOpen

@@ -1,12 +1,10 @@
 -- The page that opens a round, line by line: with no vote it is the empty page; else the present line of a vote of the highest vrnd,
 -- Nil where all of them are absent; and 9 is given exactly if two of them are not compatible.
 use Prim.Native.Nat.{ℕ, _≤_, _<_}
-use native.Mathlib.Omega.{arith}
-use lib.Dec.{ltb}
 use borrow.Author.Tests.{lt-ltb, le-ltb}
 use mathlib.Core.Path.{_≡_, refl, sym, ap, subst, _∙_}
-use mathlib.Core.Bool.{Bool, true, false, cond, true≢false, false≢true}
-use mathlib.Core.Logic.{_⊎_, inl, inr, ⊎-elim, _↔_}
+use mathlib.Core.Bool.{Bool, true, false, cond, true≢false}
+use mathlib.Core.Logic.{⊎-elim, _↔_}
 use Rattle.below.proofs.Tests.{decided, not-false-true}
 use Rattle.pages.specs.declared.line.Mark.{Mark}
 use Rattle.pages.specs.declared.line.Mark.the-variants.{Absent, Nil}
@@ -20,8 +18,8 @@ use Rattle.rounds.specs.declared.setup.Setup.{Setup}
 use Rattle.rounds.specs.Setups.{mostBoxes}
 use Rattle.records.specs.declared.rows.CoordinatorRow.{CoordinatorRow}
 use Rattle.records.specs.Slots.{heardAt}
-use Rattle.coordinators.specs.Steps.{anyVote, highest, joinVotes, joinedVotes, openPage}
-use Rattle.coordinators.proofs.JoinedVotes.{Taking, joined-above, joined-line, joined-fails, joined-compatible, Clash}
+use Rattle.coordinators.specs.Steps.{anyVote, highest, joinedVotes, openPage}
+use Rattle.coordinators.proofs.JoinedVotes.{joined-above, joined-line, joined-fails, joined-compatible, Clash}
 
 -- a heard vote of the highest vrnd, and its page
 abbrev pub votesHighest : CoordinatorRow → ℕ → Bool

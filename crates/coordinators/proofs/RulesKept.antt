@@ -1,38 +1,35 @@
 -- The rules are kept: a good row and a good message give, where the step is granted, a good row and a good message sent.
-use Prim.Native.Nat.{ℕ, _≤_, _<_}
+use Prim.Native.Nat.{ℕ, _<_}
 use native.Mathlib.Omega.{arith}
-use native.Mathlib.Decide.{decLt, ℕ-discrete}
+use native.Mathlib.Decide.{decLt}
 use lib.Dec.{ltb, eqb}
-use lib.ListN.{length, getD, set}
-use lib.Seq.{set-out, getD-set-same, getD-set-other}
-use borrow.Author.Tests.{not-true, lt-ltb, eq-eqb, eqb-true}
+use borrow.Author.Tests.{not-true, lt-ltb, eq-eqb}
 use mathlib.Core.Path.{_≡_, refl, sym, ap, subst, _∙_}
-use mathlib.Core.List.{List}
 use mathlib.Core.Bool.{Bool, true, false, cond, not, _&&_, _||_, true≢false}
 use mathlib.Core.Logic.{_⊎_, inl, inr, ⊎-elim}
 use Rattle.below.specs.Refusals.{granted}
-use Rattle.below.proofs.Tests.{and-true, and-left, and-right, or-true-right, not-true-false, all-at, all-true, any-at}
+use Rattle.below.proofs.Tests.{and-true, and-left, and-right, or-true-right, not-true-false, all-at, all-true}
 use Rattle.below.proofs.Counts.{count-some}
 use Rattle.below.proofs.Rows.{row-at}
-use Rattle.pages.specs.declared.page.Page.{Page}
 use Rattle.pages.specs.Lines.{isAbsent}
 use Rattle.pages.specs.Racks.{mostRacks, racksBelow}
-use Rattle.pages.specs.Pages.{at, some, nilExtension, completeOf, valuedOf, emptyOf, withinOf}
+use Rattle.pages.specs.Pages.{at, some, nilExtension, completeOf, valuedOf, withinOf}
 use Rattle.pages.proofs.Algebra as A
 use Rattle.pages.proofs.PageLaws.{at-nil, lines-complete}
 use Rattle.pages.proofs.Kept.{empty-empty, empty-within, nil-within, nil-prefix, prefix-valued}
 use Rattle.rounds.specs.declared.round.Round.{Round}
 use Rattle.rounds.specs.declared.setup.Setup.{Setup}
-use Rattle.rounds.specs.Setups.{setupInRange, mostBoxes, majorityOf}
+use Rattle.rounds.specs.Setups.{mostBoxes}
 use Rattle.rounds.specs.Rounds.{roundOf, zeroOf, sameRound, roundInRange, orderOf, isBelow}
 use Rattle.rounds.proofs.Ordered.{Lower, same-round, lower-irrefl, lower-trans, below-is, range-zero, zero-lowest}
 use Rattle.records.specs.declared.messages.OneB.{OneB}
 use Rattle.records.specs.declared.slots.Heard.{Heard}
 use Rattle.records.specs.declared.rows.CoordinatorRow.{CoordinatorRow}
 use Rattle.records.specs.Slots.{noHeard, heardAt}
-use Rattle.records.specs.Rules.{pageRules, lastRules, openRules, openedRules, ownRules, nothingHeard, filledHeard, heardRules, allHeard, coordinatorRules, oneARules, oneBRules, twoSRules}
+use Rattle.records.specs.Rules.{lastRules, openRules, openedRules, nothingHeard, filledHeard, heardRules, allHeard, coordinatorRules, oneARules, oneBRules, twoSRules}
 use Rattle.records.proofs.RuleParts.{own-rules, open-rules, empty-open-rules, vote-within, vote-valued, last-range, last-vote}
 use Rattle.coordinators.specs.Steps.{isVote, startRow, startOf, hearRow, hearOf, anyVote, highest, heardCount, joinedVotes, openPage, openOf}
+use Rattle.coordinators.proofs.Slots.{slot-set}
 use Rattle.coordinators.proofs.GrantedSteps.{StartGranted, start-granted, HearGranted, hear-granted, OpenGranted, open-granted}
 use Rattle.coordinators.proofs.HighestVote.{highest-vote, highest-exists}
 use Rattle.coordinators.proofs.JoinedVotes.{joined-within}
@@ -95,15 +92,6 @@ start-keeps s agent r n cf range some-n h = (
     facts : StartGranted agent r n cf
     facts = start-granted agent r n cf h
 
--- a slot after one was set
-slot-set : (l : List Heard) (i : ℕ) (v d : Heard) (k : ℕ) → (getD (set l i v) k d ≡ getD l k d) ⊎ ((k ≡ i) × (getD (set l i v) k d ≡ v))
-slot-set l i v d k = go (ℕ-discrete k i) (decLt i (length l))
-  where
-    go : Dec (k ≡ i) → Dec (i < length l) → (getD (set l i v) k d ≡ getD l k d) ⊎ ((k ≡ i) × (getD (set l i v) k d ≡ v))
-    go (no e) y = inl (getD-set-other l i k v d e)
-    go (yes e) (yes m) = inr (e, rw e (getD-set-same l i v d m))
-    go (yes e) (no m) = inl (ap (λ (x : List Heard). getD x k d) (set-out l i v (omega (arith, m))))
-
 -- a round that a good last vote is below was started: Zero is the lowest
 above-zero : (s : Setup) (vrnd round : Round) → roundInRange s vrnd ≡ true → Lower vrnd round → sameRound round (zeroOf s) ≡ false
 above-zero s vrnd round range l = not-true-false _ (λ e. never (same-round round (zeroOf s) e) (zero-lowest s vrnd range))
@@ -159,9 +147,6 @@ pub open-page-good : (s : Setup) (agent : ℕ) (r : CoordinatorRow) → coordina
 unfolding joinedVotes
 open-page-good s agent r rules joined = go (anyVote r) refl
   where
-    hall : ℕ → Bool
-    hall = racksBelow (s .racks)
-
     within : withinOf (racksBelow (s .racks)) (joinedVotes r .page) ≡ true
     within =
         joined-within (votesHighest r) (votedPage r) (racksBelow (s .racks)) mostBoxes

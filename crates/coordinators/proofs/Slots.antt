@@ -1,10 +1,14 @@
--- The slots of a row on the ways through the code: a box that no row has a slot for, and the loop that joins the votes.
-use Prim.Native.Nat.{ℕ, _+_, _≤_}
+-- The slots of a row: a box that no row has a slot for, a slot after one was set, and the loop that joins the votes.
+use Prim.Native.Nat.{ℕ, _+_, _≤_, _<_}
+use native.Mathlib.Omega.{arith}
+use native.Mathlib.Decide.{decLt, ℕ-discrete}
 use native.Mathlib.Numerals.{add-one}
 use native.Mathlib.Nat.{le-antisymm}
-use lib.ListN.{length, List·getD-eq-default}
-use lib.Seq.{set-out}
+use lib.ListN.{length, getD, set, List·getD-eq-default}
+use lib.Seq.{set-out, getD-set-same, getD-set-other}
 use mathlib.Core.Path.{_≡_, sym, ap, subst, _∙_}
+use mathlib.Core.List.{List}
+use mathlib.Core.Logic.{_⊎_, inl, inr}
 use mathlib.Core.Bool.{Bool, true, false}
 use Rattle.pages.specs.declared.page.Page.{Page}
 use Rattle.pages.specs.declared.page.Vote.{Vote}
@@ -33,3 +37,12 @@ votes-more {k} takes pages p e q = q ∙ rw (e, p, add-one k)
 
 pub votes-end : {k n : ℕ} {v : Vote} (takes : ℕ → Bool) (pages : ℕ → Page) → v ≡ joinVotes takes pages k → k ≤ n → n ≤ k → v ≡ joinVotes takes pages n
 votes-end {v = v} takes pages h a b = subst (λ (m : ℕ). v ≡ joinVotes takes pages m) (le-antisymm a b) h
+
+-- a slot after one was set
+pub slot-set : (l : List Heard) (i : ℕ) (v d : Heard) (k : ℕ) → (getD (set l i v) k d ≡ getD l k d) ⊎ ((k ≡ i) × (getD (set l i v) k d ≡ v))
+slot-set l i v d k = go (ℕ-discrete k i) (decLt i (length l))
+  where
+    go : Dec (k ≡ i) → Dec (i < length l) → (getD (set l i v) k d ≡ getD l k d) ⊎ ((k ≡ i) × (getD (set l i v) k d ≡ v))
+    go (no e) y = inl (getD-set-other l i k v d e)
+    go (yes e) (yes m) = inr (e, rw e (getD-set-same l i v d m))
+    go (yes e) (no m) = inl (ap (λ (x : List Heard). getD x k d) (set-out l i v (omega (arith, m))))

@@ -1,5 +1,4 @@
 -- The marked cases of open (document 01, 'Both sides of each edge'): P = 2, A = 3, both racks in cf; v and w are any readings.
-use Prim.Native.Nat.{ℕ}
 use lib.Dec.{eqb}
 use mathlib.Core.Bool.{Bool, true, cond, _&&_}
 use mathlib.Core.List.{List, [], _∷_}

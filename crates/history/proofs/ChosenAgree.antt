@@ -11,7 +11,7 @@ use Rattle.pages.specs.Pages.{at}
 use Rattle.history.specs.History.{History, Shows, Bears, Most, Chosen, Present, Blank}
 use Rattle.history.specs.Sound.{Sound}
 use Rattle.history.proofs.Lines.{absent-or-present}
-use Rattle.history.proofs.MajoritiesMeet.{most-some}
+use Rattle.history.proofs.MajoritiesMeet.{most-meet, most-some}
 use Rattle.history.proofs.ChoosableBefore.{bears-blankable, chosen-choosable}
 use Rattle.history.proofs.VotesAgree.{bears-agree}
 use Rattle.history.proofs.VotesAreSafe.{vote-safe}
@@ -23,19 +23,15 @@ shows-present line m h (inl e) = e
 shows-present line m h (inr (n, a, s)) = absurd (absent-or-present a h)
 
 module _ {P A : ℕ} {H : History} (S : Sound P A H) (k : ℕ) where
-  -- in one round two votes show the same line
-  pub bears-equal : (m n : Mark) (r b c : ℕ) → Present m → Present n → Bears H Blank r k m b → Bears H Blank r k n c → m ≡ n
-  bears-equal m n r b c a a′ v w = go (v .shows) (w .shows)
-    where
-      go : Shows (Blank (H .said k r)) (at (v .vote) k) m → Shows (Blank (H .said k r)) (at (w .vote) k) n → m ≡ n
-      go (inl e) t = sym e ∙ bears-agree S (bears-blankable w) b (v .vote) (v .cast) a′ (ap isAbsent e ∙ a)
-      go (inr s) (inl e) = sym (bears-agree S (bears-blankable v) c (w .vote) (w .cast) a (ap isAbsent e ∙ a′)) ∙ e
-      go (inr s) (inr t) = s .0 ∙ sym (t .0)
-
+  -- in one round: a box of both majorities shows both lines
   same-round : (m n : Mark) (r : ℕ) → Present m → Present n → Most A (Bears H Blank r k m) → Most A (Bears H Blank r k n) → m ≡ n
-  same-round m n r a a′ c d =
-      let (b, _, v) = most-some c in
-      let (x, _, w) = most-some d in bears-equal m n r b x a a′ v w
+  same-round m n r a a′ c d = let (b, _, (v, w)) = most-meet c d in go b v w (v .shows) (w .shows)
+    where
+      go : (b : ℕ) (v : Bears H Blank r k m b) (w : Bears H Blank r k n b) → Shows (Blank (H .said k r)) (at (v .vote) k) m →
+          Shows (Blank (H .said k r)) (at (w .vote) k) n → m ≡ n
+      go b v w (inl e) t = sym e ∙ bears-agree S (bears-blankable w) b (v .vote) (v .cast) a′ (ap isAbsent e ∙ a)
+      go b v w (inr s) (inl e) = sym (bears-agree S (bears-blankable v) b (w .vote) (w .cast) a (ap isAbsent e ∙ a′)) ∙ e
+      go b v w (inr s) (inr t) = s .0 ∙ sym (t .0)
 
   -- in two rounds: the lower line is choosable, so every vote of the higher round has it
   lower-round : k < P → (m n : Mark) (c : Chosen A H k m) (d : Chosen A H k n) → c .round < d .round → m ≡ n

@@ -18,22 +18,11 @@ extended-shows : {blank : Type 0} (set : ℕ → Bool) (p : Page) (k : ℕ) (m :
 extended-shows set p k m h s e =
     ⊎-elim (λ d. inl (sym d ∙ e)) (λ d. inr (sym e ∙ d .2, d .1, s (d .0))) (extension-lines set p k (ap isAbsent e ∙ h))
 
--- a held vote bears each line of its extension
-pub extended-bears : (H : History) (r k b : ℕ) (m : Mark) (blank : ℕ → Bool) (held : Page) → Present m →
-    (blank k ≡ true → H .said k r ≡ Nil) → held ∈ H .votes b r → at (nilExtension blank held) k ≡ m → Bears H Blank r k m b
-extended-bears H r k b m blank held h s v e = record { vote = held; cast = v; shows = extended-shows blank held k m h s e }
-
 pub held-chosen : (A : ℕ) (H : History) (r k : ℕ) (m : Mark) (blank among : ℕ → Bool) (held : ℕ → Page) → Present m →
     (blank k ≡ true → H .said k r ≡ Nil) → A / 2 + 1 ≤ count A among →
     ((b : ℕ) → b < A → among b ≡ true → (held b ∈ H .votes b r) × (at (nilExtension blank (held b)) k ≡ m)) → Chosen A H k m
 held-chosen A H r k m blank among held h s enough each =
-    record {
-      present = h;
-      round = r;
-      most =
-          record {
-            among = among;
-            enough = enough;
-            each = λ b l y. let (v, e) = each b l y in extended-bears H r k b m blank (held b) h s v e;
-          };
-    }
+    record { present = h; round = r; most = record { among = among; enough = enough; each = bears } }
+  where
+    bears : (b : ℕ) → b < A → among b ≡ true → Bears H Blank r k m b
+    bears b l y = record { vote = held b; cast = each b l y .0; shows = extended-shows blank (held b) k m h s (each b l y .1) }

@@ -1,5 +1,5 @@
 -- Nil-extension over the racks outside cf, which the code holds as bits, is that over the racks which pass the test.
-use Prim.Native.Nat.{ℕ, _/_, _%_, _^_}
+use Prim.Native.Nat.{ℕ, _%_, _^_}
 use native.Mathlib.Nat.{zero-div}
 use lib.Dec.{eqb, ltb}
 use mathlib.Core.Path.{_≡_, refl, ap, _∙_}

@@ -1,15 +1,17 @@
 -- What append, Nil-extension and join keep of a page's rules: lines of the hall's racks alone, readings in range, at least one reading.
 use Prim.Native.Nat.{ℕ, _<_}
-use lib.Dec.{eqb, ltb}
-use borrow.Author.Tests.{eqb-true, eq-eqb, lt-ltb}
-use mathlib.Core.Path.{_≡_, refl, sym, ap, subst, _∙_}
+use lib.Dec.{eqb}
+use lib.ListN.{length}
+use borrow.Author.Tests.{eqb-true, eq-eqb}
+use mathlib.Core.Path.{_≡_, refl, sym, ap, _∙_}
 use mathlib.Core.Bool.{Bool, true, false, cond, true≢false}
 use Rattle.pages.specs.declared.line.Mark.{Mark}
 use Rattle.pages.specs.declared.line.Mark.the-variants.{Absent, Nil, Reading as reads}
 use Rattle.pages.specs.declared.page.Page.{Page}
 use Rattle.pages.specs.Lines.{isAbsent, isReading, markInRange, appendMark}
 use Rattle.pages.specs.Racks.{mostRacks}
-use Rattle.pages.specs.Pages.{at, empty, appendOf, unionOf, nilExtension, prefixOf, valuedOf, emptyOf, withinOf}
+use Rattle.pages.specs.Pages.{line, at, page, empty, appendOf, unionOf, nilExtension, prefixOf, valuedOf, emptyOf, withinOf}
+use Rattle.below.proofs.Rows.{length-row}
 use Rattle.below.proofs.Tests.{not-true-false}
 use Rattle.pages.proofs.Lines.{append-absent, reading-present}
 use Rattle.pages.proofs.Algebra as A
@@ -86,3 +88,23 @@ valued-not-empty v h = not-true-false (emptyOf v) (λ e. true≢false (sym (empt
   where
     w : (k : ℕ) × (k < mostRacks) × (isReading (at v k) ≡ true)
     w = valued-lines v h
+
+-- a page has its eight lines; one that an operation built has them whatever it was built from
+abbrev pub Whole : Page → Type 0
+Whole p = length (p .lines) ≡ mostRacks
+
+pub page-whole : (f : ℕ → Mark) → Whole (page f)
+unfolding page
+page-whole f = length-row mostRacks (λ rack. line (f rack))
+
+pub empty-whole : Whole empty
+unfolding empty
+empty-whole = page-whole (λ rack. Absent)
+
+pub append-whole : (v : Page) (rack : ℕ) (m : Mark) → Whole (appendOf v rack m)
+unfolding appendOf
+append-whole v rack m = page-whole (λ k. cond (eqb k rack) (appendMark (at v k) m) (at v k))
+
+pub nil-whole : (over : ℕ → Bool) (v : Page) → Whole (nilExtension over v)
+unfolding nilExtension
+nil-whole over v = page-whole (λ k. cond (over k) (appendMark (at v k) Nil) (at v k))

@@ -7,13 +7,12 @@ use Rattle.below.specs.Refusals.{unless, granted, wrongMessage, wrongRound, alr
 use Rattle.below.proofs.Granted.{unless-held, unless-later, answer-granted, answer-refused, answer-number}
 use Rattle.below.proofs.Tests.{and-left, and-right}
 use Rattle.pages.specs.declared.line.Reading as Reading
-use Rattle.pages.specs.declared.line.Mark.{Mark}
 use Rattle.pages.specs.declared.line.Mark.the-variants.{Absent, Nil, Reading as reads}
 use Rattle.pages.specs.Lines.{isAbsent, isReading}
 use Rattle.pages.specs.Racks.{has}
 use Rattle.pages.specs.Pages.{at, emptyOf}
 use Rattle.pages.proofs.Lines.{absent-is, reading-is}
-use Rattle.rounds.specs.Rounds.{orderOf, isAbove, isEqual}
+use Rattle.rounds.specs.Rounds.{orderOf, isEqual}
 use Rattle.rounds.proofs.Ordered.{Lower, above-is, equal-is}
 use Rattle.records.specs.declared.messages.Propose.{Propose}
 use Rattle.records.specs.declared.messages.TwoS.{TwoS}
@@ -23,7 +22,11 @@ use Rattle.racks.specs.declared.answer.Prepared.{Prepared}
 use Rattle.racks.specs.declared.answer.Spoken.{Spoken}
 use Rattle.racks.specs.Steps.{noTwoA, spoken, said, saying, prepareRefusal, prepareRow, prepareOf, fastRefusal, fastOf, blankRefusal, blankOf}
 
--- 6 prepare
+-- 6 prepare: the number answered is that of the first condition that fails
+pub prepare-number : (agent : ℕ) (row : RackRow) (m : TwoS) → prepareOf agent row m .refusal ≡ prepareRefusal row m
+unfolding prepareOf
+prepare-number agent row m = answer-number (λ (a : Prepared). a .refusal) (prepareRefusal row m) _ _ refl refl
+
 pub record PrepareGranted (agent : ℕ) (row : RackRow) (m : TwoS) : Type 0 where
   pub above : Lower (row .prnd) (m .round)
   pub prnd-is : prepareOf agent row m .row .prnd ≡ m .round
@@ -39,7 +42,7 @@ prepare-granted agent row m h =
     }
   where
     number : prepareRefusal row m ≡ granted
-    number = sym (answer-number (λ (a : Prepared). a .refusal) (prepareRefusal row m) _ _ refl refl) ∙ h
+    number = sym (prepare-number agent row m) ∙ h
 
     answer : prepareOf agent row m ≡ record { refusal = granted; row = prepareRow agent m }
     answer = answer-granted (prepareRefusal row m) _ _ number
@@ -50,8 +53,8 @@ unfolding prepareOf
 prepare-refused agent row m h = answer-refused (prepareRefusal row m) _ _ h
 
 -- a rack that speaks was not refused, and one that was refused says nothing
-spoken-number : (number : ℕ) (row after : RackRow) (sent : TwoA) → spoken number row after sent .refusal ≡ granted → number ≡ granted
-spoken-number number row after sent h = sym (answer-number (λ (a : Spoken). a .refusal) number _ _ refl refl) ∙ h
+spoken-number : (number : ℕ) (row after : RackRow) (sent : TwoA) → spoken number row after sent .refusal ≡ number
+spoken-number number row after sent = answer-number (λ (a : Spoken). a .refusal) number _ _ refl refl
 
 spoken-granted : (number : ℕ) (row after : RackRow) (sent : TwoA) → number ≡ granted →
     spoken number row after sent ≡ record { refusal = granted; row = after; sent = sent }
@@ -62,6 +65,10 @@ spoken-refused : (number : ℕ) (row after : RackRow) (sent : TwoA) → (number 
 spoken-refused number row after sent h = answer-refused number _ _ h
 
 -- 7 fast
+pub fast-number : (agent : ℕ) (row : RackRow) (m : Propose) → fastOf agent row m .refusal ≡ fastRefusal agent row
+unfolding fastOf
+fast-number agent row m = spoken-number (fastRefusal agent row) row _ _
+
 pub record FastGranted (agent : ℕ) (row : RackRow) (m : Propose) : Type 0 where
   pub in-cf : has (row .prnd .cf) agent ≡ true
   pub silent : row .pval .mark ≡ Absent
@@ -84,7 +91,7 @@ fast-granted agent row m h =
     later = unless (isAbsent (row .pval .mark)) alreadyDone granted
 
     number : fastRefusal agent row ≡ granted
-    number = spoken-number (fastRefusal agent row) row _ _ h
+    number = sym (fast-number agent row m) ∙ h
 
     answer : fastOf agent row m ≡ record { refusal = granted; row = said row (reads (m .reading)); sent = saying row (reads (m .reading)) }
     answer = spoken-granted (fastRefusal agent row) row _ _ number
@@ -95,6 +102,10 @@ unfolding fastOf
 fast-refused agent row m h = spoken-refused (fastRefusal agent row) row _ _ h
 
 -- 8 blank
+pub blank-number : (agent : ℕ) (row : RackRow) (m : TwoA) → blankOf agent row m .refusal ≡ blankRefusal agent row m
+unfolding blankOf
+blank-number agent row m = spoken-number (blankRefusal agent row m) row _ _
+
 pub record BlankGranted (agent : ℕ) (row : RackRow) (m : TwoA) : Type 0 where
   pub reading : (r : Reading.Reading) × (m .line .mark ≡ reads r)
   pub same : m .round ≡ row .prnd
@@ -125,7 +136,7 @@ blank-granted agent row m h =
     rest = unless fitting wrongRound later
 
     number : blankRefusal agent row m ≡ granted
-    number = spoken-number (blankRefusal agent row m) row _ _ h
+    number = sym (blank-number agent row m) ∙ h
 
     number' : rest ≡ granted
     number' = unless-later (isReading (m .line .mark)) wrongMessage rest (omega arith) number

@@ -1,7 +1,7 @@
 -- The rules are kept: a good row and a good message give, where the step is granted, a good row and a good message sent.
 use Prim.Native.Nat.{ℕ, _<_}
 use native.Mathlib.Omega.{arith}
-use mathlib.Core.Path.{_≡_, refl, sym, ap, subst, _∙_}
+use mathlib.Core.Path.{_≡_, refl, ap, _∙_}
 use mathlib.Core.Bool.{Bool, true, false, cond, not}
 use Rattle.below.specs.Refusals.{granted}
 use Rattle.below.proofs.Tests.{and-true, and-left, and-right}
@@ -12,7 +12,6 @@ use Rattle.pages.specs.Lines.{readingInRange, markInRange, isAbsent}
 use Rattle.pages.specs.Racks.{racksBelow, has}
 use Rattle.pages.specs.Pages.{at, emptyOf}
 use Rattle.pages.proofs.PageLaws.{within-range}
-use Rattle.rounds.specs.declared.round.Round.{Round}
 use Rattle.rounds.specs.declared.setup.Setup.{Setup}
 use Rattle.rounds.specs.Setups.{setupInRange}
 use Rattle.rounds.specs.Rounds.{roundInRange}

@@ -1,7 +1,7 @@
 -- The steps of a rack: 1 offer, 6 prepare, 7 fast, 8 blank. `agent` is the rack.
 use Prim.Native.Nat.{ℕ}
 use lib.Dec.{eqb}
-use mathlib.Core.Bool.{Bool, cond, _&&_}
+use mathlib.Core.Bool.{cond, _&&_}
 use Rattle.below.specs.Refusals.{unless, granted, wrongMessage, wrongRound, alreadyDone}
 use Rattle.pages.specs.declared.line.Reading as Reading
 use Rattle.pages.specs.declared.line.Mark.{Mark}
@@ -9,7 +9,7 @@ use Rattle.pages.specs.declared.line.Mark.the-variants.{Absent, Nil, Reading as
 use Rattle.pages.specs.Lines.{isAbsent, isReading}
 use Rattle.pages.specs.Racks.{has}
 use Rattle.pages.specs.Pages.{line, at, emptyOf}
-use Rattle.rounds.specs.Rounds.{sameRound, orderOf, isAbove, isEqual}
+use Rattle.rounds.specs.Rounds.{orderOf, isAbove, isEqual}
 use Rattle.records.specs.Slots.{noRound}
 use Rattle.records.specs.declared.messages.Propose.{Propose}
 use Rattle.records.specs.declared.messages.TwoS.{TwoS}

@@ -32,8 +32,8 @@ use Rattle.history.specs.Moves.{join, vote, readingVote}
 use Rattle.history.proofs.Updates.{put-same, put-other, put₂-same, put₂-other}
 use Rattle.history.proofs.OfferJoinSay.{join-grows, join-sound}
 use Rattle.history.proofs.VoteMoves.{vote-grows, vote-page-sound, vote-reading-sound}
-use Rattle.safety.proofs.Messages.{oneB, twoS, twoA, twoB, Says}
-use Rattle.safety.proofs.Rows.{NewestVote, BoxTrue}
+use Rattle.safety.proofs.TrueMessages.{oneB, twoS, twoA, twoB, Says}
+use Rattle.safety.proofs.TrueRows.{NewestVote, BoxTrue}
 use Rattle.safety.proofs.Moved.{box, SoundHall, Stepped}
 use Rattle.safety.proofs.InRange.{small, lower-number, same-number, rnd-range, vrnd-range, oneA-range, twoS-range, twoA-range, twoA-in-cf}
 

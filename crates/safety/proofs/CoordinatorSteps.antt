@@ -2,22 +2,19 @@
 use Prim.Native.Nat.{ℕ, _+_, _*_, _<_}
 use native.Mathlib.Omega.{arith}
 use native.Mathlib.Nat.{lt-trans}
-use native.Mathlib.Decide.{decLt}
 use mathlib.Core.Path.{_≡_, refl, sym, ap, subst, _∙_}
-use mathlib.Core.Bool.{true, false, true≢false, false≢true}
+use mathlib.Core.Bool.{true, false, true≢false}
 use mathlib.Core.Logic.{_≢_, ⊎-elim}
 use Rattle.below.specs.Refusals.{granted}
 use Rattle.below.proofs.Tests.{decided}
-use Rattle.below.proofs.Rows.{row-at, row-past}
 use Rattle.pages.specs.declared.page.Page.{Page}
-use Rattle.pages.specs.Pages.{empty, emptyOf, some}
+use Rattle.pages.specs.Pages.{emptyOf, some}
 use Rattle.pages.proofs.Kept.{empty-empty, valued-not-empty}
 use Rattle.rounds.specs.declared.setup.Setup.{Setup}
 use Rattle.rounds.specs.declared.round.Round.{Round}
 use Rattle.rounds.specs.Setups.{setupInRange, mostBoxes}
 use Rattle.rounds.specs.Rounds.{roundOf}
 use Rattle.rounds.proofs.Ordered.{key, lower-key}
-use Rattle.records.specs.declared.slots.Heard.{Heard}
 use Rattle.records.specs.declared.messages.OneB.{OneB}
 use Rattle.records.specs.declared.rows.CoordinatorRow.{CoordinatorRow}
 use Rattle.records.specs.Slots.{noHeard, heardAt}
@@ -33,21 +30,17 @@ use Rattle.history.proofs.FactsStay.{told-stays}
 use Rattle.history.proofs.Updates.{put-same, put-other}
 use Rattle.history.proofs.OpenedIsSafe.{gathered-whole}
 use Rattle.history.proofs.OpenMoves.{open-grows, open-free-sound, open-fixed-sound}
-use Rattle.safety.proofs.Messages.{oneA, oneB, twoS, Says, TwoSTrue}
-use Rattle.safety.proofs.Rows.{CoordinatorTrue}
+use Rattle.safety.proofs.TrueMessages.{oneA, oneB, twoS, Says, TwoSTrue}
+use Rattle.safety.proofs.TrueRows.{CoordinatorTrue}
 use Rattle.safety.proofs.Moved.{coordinator, SoundHall, Stepped, Silent, still}
 use Rattle.safety.proofs.InRange.{small, small-coordinator, crnd-range}
-use Rattle.safety.proofs.Slots.{slot-cases}
+use Rattle.safety.proofs.Slots.{equal-slots, slot-cases}
 use Rattle.safety.proofs.OpenGathers.{hearing, heard-most, none-voted, open-gathers}
 
 -- a round that was just started heard nothing
 none-heard : (round : Round) (b : ℕ) → heardAt (startRow round) b .filled ≡ false
 unfolding startRow heardAt
-none-heard round b = go (decLt b mostBoxes)
-  where
-    go : Dec (b < mostBoxes) → heardAt (startRow round) b .filled ≡ false
-    go (yes l) = ap (λ (h : Heard). h .filled) (row-at mostBoxes (λ box. noHeard) b _ l)
-    go (no n) = ap (λ (h : Heard). h .filled) (row-past mostBoxes (λ box. noHeard) b _ (omega (arith, n)))
+none-heard round = equal-slots (λ slot. slot .filled ≡ false) mostBoxes noHeard _ refl refl
 
 module _ (s : Setup) {H : History} (S : SoundHall s H) (good : setupInRange s ≡ true) (c : ℕ) (r : CoordinatorRow) (t : CoordinatorTrue H c r)
     (rules : coordinatorRules s c r ≡ true) where

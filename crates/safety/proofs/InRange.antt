@@ -26,30 +26,20 @@ use Rattle.records.specs.Slots.{heardAt}
 use Rattle.records.specs.Rules.{oneARules, twoSRules, twoARules, openedRules, nothingHeard, filledHeard, heardRules, allHeard, coordinatorRules, boxRules, rackRules}
 use Rattle.records.proofs.RuleParts.{own-range, last-range}
 
--- the parts of a setup's range
-pub record SetupParts (s : Setup) : Type 0 where
-  pub some-rack : 0 < s .racks
-  pub racks : s .racks ≤ mostRacks
-  pub boxes : s .boxes ≤ mostBoxes
-  pub coordinators : s .coordinators ≤ mostCoordinators
-
-pub setup-parts : (s : Setup) → setupInRange s ≡ true → SetupParts s
+-- what a setup's range says of racks and coordinators
+pub setup-some-rack : (s : Setup) → setupInRange s ≡ true → 0 < s .racks
 unfolding setupInRange
-setup-parts s h =
-    let racks = and-left (oneTo mostRacks (s .racks)) _ h in
-    let later = and-right (oneTo mostRacks (s .racks)) _ h in
-    let boxes = and-left (oneTo mostBoxes (s .boxes)) _ later in
-    let coordinators = and-left (oneTo mostCoordinators (s .coordinators)) _ (and-right (oneTo mostBoxes (s .boxes)) _ later) in
-    record {
-      some-rack = ltb-true _ _ (and-left (ltb 0 (s .racks)) _ racks);
-      racks = leb-true _ _ (and-right (ltb 0 (s .racks)) _ racks);
-      boxes = leb-true _ _ (and-right (ltb 0 (s .boxes)) _ boxes);
-      coordinators = leb-true _ _ (and-right (ltb 0 (s .coordinators)) _ coordinators);
-    }
+setup-some-rack s h = ltb-true _ _ (and-left (ltb 0 (s .racks)) _ (and-left (oneTo mostRacks (s .racks)) _ h))
+
+setup-coordinators : (s : Setup) → setupInRange s ≡ true → s .coordinators ≤ mostCoordinators
+unfolding setupInRange
+setup-coordinators s h =
+    let later = and-right (oneTo mostBoxes (s .boxes)) _ (and-right (oneTo mostRacks (s .racks)) _ h) in
+    leb-true _ _ (and-right (ltb 0 (s .coordinators)) _ (and-left (oneTo mostCoordinators (s .coordinators)) _ later))
 
 module _ (s : Setup) (good : setupInRange s ≡ true) where
   pub small-coordinator : (c : ℕ) → c < s .coordinators → c < 4
-  small-coordinator c l = omega (arith, setup-parts s good .coordinators)
+  small-coordinator c l = omega (arith, setup-coordinators s good)
 
   -- a round in range
   pub small : (r : Round) → roundInRange s r ≡ true → r .c < 4

@@ -6,25 +6,22 @@ use native.Mathlib.Nat.{le-trans}
 use lib.Dec.{eqb, leb}
 use borrow.Author.Tests.{lt-ltb}
 use mathlib.Core.Path.{_≡_, refl, sym, ap, subst, _∙_}
-use mathlib.Core.Bool.{Bool, true, false, cond, not, _&&_, true≢false}
+use mathlib.Core.Bool.{Bool, true, false, cond, not, _&&_}
 use mathlib.Core.Logic.{_⊎_, _≢_, ⊎-elim}
 use Rattle.below.specs.Refusals.{unless, granted, wrongRound, alreadyDone, noMajority, linesClash}
-use Rattle.below.proofs.Counts.{count-some}
 use Rattle.below.proofs.Granted.{answer-number}
-use Rattle.below.proofs.Tests.{decided, not-false-true}
-use Rattle.pages.specs.declared.line.Mark.{Mark}
 use Rattle.pages.specs.declared.line.Mark.the-variants.{Nil}
 use Rattle.pages.specs.declared.page.Page.{Page}
-use Rattle.pages.specs.Lines.{isAbsent, appendMark}
+use Rattle.pages.specs.Lines.{isAbsent}
 use Rattle.pages.specs.Racks.{mostRacks, racksBelow}
-use Rattle.pages.specs.Pages.{at, prefixOf, compatibleOf, unionOf}
-use Rattle.pages.proofs.Lines.{nil-is, absent-is, prefix-present, prefix-same, append-present, append-absent}
-use Rattle.pages.proofs.PageLaws.{at-union, union-left, prefix-lines, lines-prefix, trivial-lines}
+use Rattle.pages.specs.Pages.{at, prefixOf, compatibleOf, unionOf, trivialOf}
+use Rattle.pages.proofs.Lines.{nil-is, compatible-of-present}
+use Rattle.pages.proofs.PageLaws.{union-left, union-right, lines-compatible, trivial-lines}
 use Rattle.rounds.specs.declared.setup.Setup.{Setup}
 use Rattle.rounds.specs.declared.round.Round.{Round}
 use Rattle.rounds.specs.declared.order.Order.{Order}
-use Rattle.rounds.specs.declared.order.Order.the-variants.{Below, Equal, Above, Clash}
-use Rattle.rounds.specs.Setups.{setupInRange, mostBoxes, majorityOf}
+use Rattle.rounds.specs.declared.order.Order.the-variants.{Below, Equal, Above as Higher, Clash}
+use Rattle.rounds.specs.Setups.{setupInRange, majorityOf}
 use Rattle.rounds.specs.Rounds.{orderOf}
 use Rattle.rounds.proofs.Ordered.{key, Compared, compared}
 use Rattle.records.specs.declared.messages.TwoB.{TwoB}
@@ -33,23 +30,22 @@ use Rattle.records.specs.declared.rows.ReaderRow.{ReaderRow}
 use Rattle.records.specs.Slots.{heldAt}
 use Rattle.records.specs.Rules.{coordinatorRules}
 use Rattle.coordinators.specs.declared.answer.Opened.{Opened}
-use Rattle.coordinators.specs.Steps.{anyClash, heardCount, joinVotes, joinedVotes, openRefusal, openOf}
-use Rattle.coordinators.proofs.JoinedVotes.{Clash as Clashing, joined-above, joined-fails}
+use Rattle.coordinators.specs.Steps.{anyClash, heardCount, joinedVotes, openRefusal, openOf}
 use Rattle.readers.specs.declared.answer.Noted.{Noted}
 use Rattle.readers.specs.Notes.{byOrder, sameRoundRefusal, noteVoteRefusal, noteVoteOf}
-use Rattle.readers.specs.Learning.{heldIn, extended, HeldMajority, ChosenPage, Learns, tooFew, notCompatible, allNil, learnt}
-use Rattle.readers.specs.Learning as L
+use Rattle.readers.specs.Learning.{Above, JoinsChosen, Learns, tooFew, notCompatible, allNil, learnt}
+use Rattle.readers.specs.Counting.{agreedPage}
+use Rattle.readers.proofs.ChosenLines.{carriers, carriers-line, agreed-majority, above-agreed}
 use Rattle.history.specs.History.{_∈_, History, Present, Chosen}
-use Rattle.history.proofs.Lines.{at-compatible}
 use Rattle.history.proofs.VotesAreChains.{votes-chain}
-use Rattle.history.proofs.ChosenAgree.{bears-equal, chosen-agree}
+use Rattle.history.proofs.ChosenAgree.{chosen-agree}
 use Rattle.history.proofs.NeverAllBlank.{never-all-blank}
-use Rattle.safety.proofs.Messages.{twoB, Says}
-use Rattle.safety.proofs.Rows.{CoordinatorTrue, ReaderTrue}
+use Rattle.safety.proofs.TrueMessages.{twoB, Says}
+use Rattle.safety.proofs.TrueRows.{CoordinatorTrue, ReaderTrue}
 use Rattle.safety.proofs.Moved.{SoundHall}
-use Rattle.safety.proofs.InRange.{setup-parts}
+use Rattle.safety.proofs.InRange.{setup-some-rack}
 use Rattle.safety.proofs.OpenGathers.{votes-join}
-use Rattle.safety.proofs.ReaderSteps.{LearntLines, HeldFacts, held-facts, held-bears, majority-chosen, learnt-shown}
+use Rattle.safety.proofs.ReaderSteps.{majority-chosen, learnt-shown}
 
 -- a chain of refusals is not 9 if none of its numbers is
 not-nine : (b : Bool) (number later : ℕ) → number ≢ linesClash → later ≢ linesClash → unless b number later ≢ linesClash
@@ -84,7 +80,7 @@ note-vote-never-nine s {H} S r t b m x h =
     order Below f d = omega arith
     order Equal f d =
         same _ _ (votes-chain S b (key (m .round)) _ _ (subst (λ (x : Round). heldAt r b .page ∈ H .votes b (key x)) d (t .held b f)) (x .cast))
-    order Above f d = omega arith
+    order Higher f d = omega arith
     order Clash f d = omega arith
 
     slot : (f : Bool) → heldAt r b .filled ≡ f →
@@ -94,61 +90,37 @@ note-vote-never-nine s {H} S r t b m x h =
 
 -- step 13
 module _ (s : Setup) {H : History} (S : SoundHall s H) (good : setupInRange s ≡ true) (r : ReaderRow) (t : ReaderTrue s H r) (round : Round) where
-  -- all extended pages of one round are compatible, so that they have a join
-  joined : Page
-  joined = joinVotes (heldIn s r round) (extended r round) mostBoxes .page
+  -- a line that counting agrees on is chosen
+  agreed-chosen : (k : ℕ) → k < mostRacks → Present (at (agreedPage s r round) k) → Chosen (s .boxes) H k (at (agreedPage s r round) k)
+  agreed-chosen k l h =
+      majority-chosen s r t round good k _ h
+      (record {
+        among = carriers s r round k (at (agreedPage s r round) k);
+        majority = agreed-majority s r round k l h;
+        line = λ b low e. carriers-line s r round k (at (agreedPage s r round) k) b h e;
+      })
 
-  extended-compatible : (a b : ℕ) → HeldFacts s r round a → HeldFacts s r round b → compatibleOf (extended r round a) (extended r round b) ≡ true
-  extended-compatible a b f g =
-      at-compatible (extended r round a) (extended r round b)
-      (λ k p q. bears-equal S k _ _ (key round) a b p q (held-bears s r t round a k _ f p refl) (held-bears s r t round b k _ g q refl))
+  -- so is each line that the reader shows: they agree
+  agreed-compatible : compatibleOf (r .page) (agreedPage s r round) ≡ true
+  agreed-compatible =
+      lines-compatible (r .page) (agreedPage s r round)
+      (λ k l. compatible-of-present _ _ (λ h g. chosen-agree S k _ _ (t .shown k h) (agreed-chosen k l g)))
 
-  joins : joinVotes (heldIn s r round) (extended r round) mostBoxes .some ≡ true
-  joins = not-false-true _ (λ e. never (joined-fails (heldIn s r round) (extended r round) mostBoxes e))
-    where
-      never : Clashing (heldIn s r round) (extended r round) mostBoxes → ⊥
-      never (a, b, low, (held, e)) =
-          true≢false (sym (extended-compatible a b (held-facts s r round a (held .0)) (held-facts s r round b (held .1))) ∙ e)
+  agreed-joins : Above s r round (unionOf (r .page) (agreedPage s r round))
+  agreed-joins =
+      above-agreed s r round (unionOf (r .page) (agreedPage s r round)) (union-left (r .page) (agreedPage s r round))
+      (union-right (r .page) (agreedPage s r round) agreed-compatible)
 
-  -- the reader's page with their join is above all chosen pages
-  above : L.Above s r round (unionOf (r .page) joined)
-  unfolding joined
-  above = record { own = union-left (r .page) joined; chosen = chosen }
-    where
-      chosen : (p : Page) → ChosenPage s r round p → prefixOf p (unionOf (r .page) joined) ≡ true
-      chosen p y = lines-prefix p _ (λ k l. ⊎-elim (λ a. rw (absent-is (at p k) a)) (λ a. prefix-same _ _ (same k l a)) (decided (isAbsent (at p k))))
-        where
-          has-line : (k : ℕ) → k < mostRacks → Present (at p k) → (b : ℕ) → b < mostBoxes → y .among b ≡ true → at (extended r round b) k ≡ at p k
-          has-line k l a b m e = prefix-present (at p k) _ (prefix-lines p (extended r round b) (y .prefix b m e) k l) a
-
-          line-chosen : (k : ℕ) → k < mostRacks → Present (at p k) → Chosen (s .boxes) H k (at p k)
-          line-chosen k l a = majority-chosen s r t round good (y .among) (y .majority) k (at p k) a (has-line k l a)
-
-          line-joined : (k : ℕ) → k < mostRacks → Present (at p k) → at joined k ≡ at p k
-          line-joined k l a =
-              let (b, m, e) = count-some mostBoxes (y .among) (omega (arith, y .majority .enough)) in
-              let d = has-line k l a b m e in
-              prefix-present (at (extended r round b) k) _
-              (prefix-lines (extended r round b) joined (joined-above (heldIn s r round) (extended r round) mostBoxes joins b m (y .majority .held b m e)) k l)
-              (ap isAbsent d ∙ a) ∙
-              d
-
-          same : (k : ℕ) → k < mostRacks → Present (at p k) → at (unionOf (r .page) joined) k ≡ at p k
-          same k l a = at-union (r .page) joined k l ∙ ⊎-elim new own (decided (isAbsent (at (r .page) k)))
-            where
-              new : isAbsent (at (r .page) k) ≡ true → appendMark (at (r .page) k) (at joined k) ≡ at p k
-              new e = append-absent (at (r .page) k) (at joined k) e ∙ line-joined k l a
-
-              own : isAbsent (at (r .page) k) ≡ false → appendMark (at (r .page) k) (at joined k) ≡ at p k
-              own e = append-present (at (r .page) k) (at joined k) e ∙ chosen-agree S k _ _ (t .shown k e) (line-chosen k l a)
-
-  pub learn-never-nine : LearntLines s r round → {a : Noted} → Learns s r round a → a .refusal ≢ linesClash
-  learn-never-nine lines (tooFew n) = omega arith
-  learn-never-nine lines (notCompatible among y n) = absurd (n _ above)
-  learn-never-nine lines (allNil among y w j e) = absurd (never-all-blank S (setup-parts s good .some-rack) blank)
+  not-trivial : (w : Page) → JoinsChosen s r round w → trivialOf (racksBelow (s .racks)) w ≡ true → ⊥
+  not-trivial w j e = never-all-blank S (setup-some-rack s good) blank
     where
       blank : (k : ℕ) → k < s .racks → Chosen (s .boxes) H k Nil
       blank k l =
           let nil : at w k ≡ Nil = nil-is _ (trivial-lines (racksBelow (s .racks)) w e k (le-trans l (S .racks)) (lt-ltb k (s .racks) l)) in
-          subst (Chosen (s .boxes) H k) nil (learnt-shown s r t round good lines w j k (ap isAbsent nil))
-  learn-never-nine lines (learnt among y w j e) = omega arith
+          subst (Chosen (s .boxes) H k) nil (learnt-shown s r t round good w j k (ap isAbsent nil))
+
+  pub learn-never-nine : {a : Noted} → Learns s r round a → a .refusal ≢ linesClash
+  learn-never-nine (tooFew n) = omega arith
+  learn-never-nine (notCompatible among y n) = absurd (n _ agreed-joins)
+  learn-never-nine (allNil among y w j e) = absurd (not-trivial w j e)
+  learn-never-nine (learnt among y w j e) = omega arith

@@ -22,18 +22,19 @@ use Rattle.rounds.proofs.Ordered.{key, Lower}
 use Rattle.records.specs.declared.rows.CoordinatorRow.{CoordinatorRow}
 use Rattle.records.specs.Slots.{heardAt}
 use Rattle.records.specs.Rules.{coordinatorRules}
+use Rattle.records.proofs.RuleParts.{setup-boxes}
 use Rattle.coordinators.specs.Steps.{isVote, anyVote, heardCount, joinedVotes, openPage}
 use Rattle.coordinators.proofs.HighestVote.{highest-vote, highest-top, top-highest, highest-exists}
 use Rattle.coordinators.proofs.OpenPage.{votesHighest, votedPage, open-some-vote, OpenLine, of-vote, all-absent, open-line, open-past, open-joins}
+use Rattle.readers.proofs.First.{count-cut}
 use Rattle.history.specs.History.{_∈_, History, Present}
 use Rattle.history.specs.Reports.{Hearing, Heard, VotedAt, GatheredLine, Gathered}
 use Rattle.history.proofs.Lines.{absent-or-present}
 use Rattle.history.proofs.VotesAgree.{votes-compatible}
 use Rattle.history.proofs.VotesAreValued.{vote-within}
-use Rattle.safety.proofs.Rows.{CoordinatorTrue}
+use Rattle.safety.proofs.TrueRows.{CoordinatorTrue}
 use Rattle.safety.proofs.Moved.{SoundHall}
-use Rattle.safety.proofs.InRange.{setup-parts, lower-number, not-lower-number, heard-facts}
-use Rattle.safety.proofs.Slots.{count-within}
+use Rattle.safety.proofs.InRange.{lower-number, not-lower-number, heard-facts}
 
 -- what a coordinator keeps, as the history reads it
 abbrev pub hearing : CoordinatorRow → Hearing
@@ -51,7 +52,9 @@ module _ (s : Setup) {H : History} (S : SoundHall s H) (good : setupInRange s �
   unfolding heardCount
   heard-most m =
       record {
-        enough = le-trans m (count-within mostBoxes (s .boxes) (λ b. heardAt r b .filled) (λ b l e. heard-facts s c r rules b l e .0));
+        enough =
+            subst (λ (n : ℕ). majorityOf (s .boxes) ≤ n)
+            (count-cut mostBoxes (s .boxes) (λ b. heardAt r b .filled) (setup-boxes s good) (λ b l e. heard-facts s c r rules b l e .0)) m;
         told = λ b l e. t .heard b e;
       }
 
@@ -59,7 +62,7 @@ module _ (s : Setup) {H : History} (S : SoundHall s H) (good : setupInRange s �
   pub none-voted : anyVote r ≡ false → (b : ℕ) → b < s .boxes → heardAt r b .filled ≡ true → heardAt r b .vote .some ≡ false
   unfolding anyVote
   none-voted h b l e =
-      let none = any-none mostBoxes (λ box. isVote (heardAt r box)) h b (le-trans l (setup-parts s good .boxes)) in
+      let none = any-none mostBoxes (λ box. isVote (heardAt r box)) h b (le-trans l (setup-boxes s good)) in
       not-true-false _ (λ v. true≢false (sym (and-true e v) ∙ none))
 
   -- a heard vote is one of the box's, at its vrnd
@@ -112,7 +115,7 @@ module _ (s : Setup) {H : History} (S : SoundHall s H) (good : setupInRange s �
 
           highest : (b : ℕ) → b < s .boxes → heardAt r b .filled ≡ true → heardAt r b .vote .some ≡ true →
               key (heardAt r b .vrnd) ≤ key (heardAt r top .vrnd)
-          highest b l f e = not-above top low h b (le-trans l (setup-parts s good .boxes)) (and-true f e)
+          highest b l f e = not-above top low h b (le-trans l (setup-boxes s good)) (and-true f e)
 
           voted-at : (b : ℕ) → b < mostBoxes → votesHighest r b ≡ true → VotedTop b
           voted-at b l g =
@@ -136,7 +139,7 @@ module _ (s : Setup) {H : History} (S : SoundHall s H) (good : setupInRange s �
               line : OpenLine s r k → GatheredLine (s .boxes) (hearing r) (key (heardAt r top .vrnd)) (openPage s r) k
               line (of-vote b m g present e) = inl (b, voted-at b m g, present, e)
               line (all-absent none e) =
-                  inr (e, λ b w. let m = le-trans (w .box) (setup-parts s good .boxes) in absent-is _ (none b m (is-highest b m w)))
+                  inr (e, λ b w. let m = le-trans (w .box) (setup-boxes s good) in absent-is _ (none b m (is-highest b m w)))
 
           within : (k : ℕ) → Present (at (openPage s r) k) → k < s .racks
           within k present = rack (decLt k (s .racks)) (decLt k mostRacks)

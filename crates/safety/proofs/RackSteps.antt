@@ -3,13 +3,11 @@ use Prim.Native.Nat.{ℕ, _<_}
 use native.Mathlib.Omega.{arith}
 use mathlib.Core.Path.{_≡_, refl, sym, ap, subst, _∙_}
 use mathlib.Core.Bool.{Bool, true, false, cond}
-use mathlib.Core.Logic.{_≢_}
 use mathlib.Core.List.{_∷_, List·Memᴰ·head}
 use Rattle.below.specs.Refusals.{granted}
 use Rattle.pages.specs.declared.line.Reading.{Reading}
 use Rattle.pages.specs.declared.line.Mark.{Mark}
 use Rattle.pages.specs.declared.line.Mark.the-variants.{Absent, Nil, Reading as reads}
-use Rattle.pages.specs.Lines.{isAbsent}
 use Rattle.pages.specs.Pages.{at, emptyOf}
 use Rattle.rounds.specs.declared.setup.Setup.{Setup}
 use Rattle.rounds.specs.declared.round.Round.{Round}
@@ -28,8 +26,8 @@ use Rattle.history.specs.Moves.{offer, say}
 use Rattle.history.proofs.Lines.{absent-or-present, nil-or-reading}
 use Rattle.history.proofs.Updates.{put₂-same, put₂-other}
 use Rattle.history.proofs.OfferJoinSay.{offer-grows, offer-sound, say-grows, say-sound}
-use Rattle.safety.proofs.Messages.{propose, twoS, twoA, Says}
-use Rattle.safety.proofs.Rows.{RackTrue}
+use Rattle.safety.proofs.TrueMessages.{propose, twoS, twoA, Says}
+use Rattle.safety.proofs.TrueRows.{RackTrue}
 use Rattle.safety.proofs.Moved.{rack, SoundHall, Stepped, Silent, still}
 use Rattle.safety.proofs.InRange.{lower-number, rack-range, twoS-range}
 

@@ -1,6 +1,6 @@
 -- What readers show, at whichever moments: their pages agree, their readings were offered, not every rack is blank.
 use Prim.Native.Nat.{ℕ, _<_}
-use mathlib.Core.Path.{_≡_, refl, sym, ap, subst, _∙_}
+use mathlib.Core.Path.{_≡_, ap, subst}
 use mathlib.Core.Bool.{true}
 use Rattle.pages.specs.declared.line.Reading.{Reading}
 use Rattle.pages.specs.declared.line.Mark.the-variants.{Nil, Reading as reads}
@@ -13,9 +13,9 @@ use Rattle.history.specs.History.{History, Grows, Offered, Present, Chosen}
 use Rattle.history.proofs.ChosenAgree.{chosen-agree}
 use Rattle.history.proofs.ChosenWasOffered.{chosen-offered}
 use Rattle.history.proofs.NeverAllBlank.{never-all-blank}
-use Rattle.safety.proofs.Rows.{Shown, shown-stays}
+use Rattle.safety.proofs.TrueRows.{Shown, shown-stays}
 use Rattle.safety.proofs.Moved.{SoundHall}
-use Rattle.safety.proofs.InRange.{setup-parts}
+use Rattle.safety.proofs.InRange.{setup-some-rack}
 use Rattle.safety.proofs.Views.{View, Kept}
 
 -- a reader's page at a moment up to that of H
@@ -44,5 +44,5 @@ module _ (s : Setup) {H : History} (S : SoundHall s H) where
   pub never-all-nil : setupInRange s ≡ true → (page : ℕ → Page) → ((k : ℕ) → k < s .racks → Seen s H (page k)) →
       ((k : ℕ) → k < s .racks → at (page k) k ≡ Nil) → ⊥
   never-all-nil good page seen nil =
-      never-all-blank S (setup-parts s good .some-rack)
+      never-all-blank S (setup-some-rack s good)
       (λ k l. subst (Chosen (s .boxes) H k) (nil k l) (seen-shown s (page k) (seen k l) k (ap isAbsent (nil k l))))

@@ -10,9 +10,9 @@ use Rattle.records.specs.declared.rows.BoxRow.{BoxRow}
 use Rattle.records.specs.declared.rows.RackRow.{RackRow}
 use Rattle.records.specs.declared.rows.ReaderRow.{ReaderRow}
 use Rattle.history.specs.History.{Offer, History}
-use Rattle.safety.proofs.Messages.{Message, Says, says-stays}
-use Rattle.safety.proofs.Rows.{CoordinatorTrue, BoxTrue, RackTrue, ReaderTrue, coordinator-stays, box-stays, rack-stays, reader-stays}
-use Rattle.safety.proofs.Moved.{Agent, coordinator, box, rack, reader, agent-discrete, SoundHall, Moved, Stepped}
+use Rattle.safety.proofs.TrueMessages.{Message, Says, says-stays}
+use Rattle.safety.proofs.TrueRows.{CoordinatorTrue, BoxTrue, RackTrue, ReaderTrue, coordinator-stays, box-stays, rack-stays, reader-stays}
+use Rattle.safety.proofs.Moved.{Agent, coordinator, box, rack, reader, agent-discrete, SoundHall, Moved}
 
 -- the rows by number, and which messages can still be handed over
 pub record View : Type 1 where
@@ -31,12 +31,12 @@ pub record Kept (s : Setup) (H : History) (hall : View) : Type 0 where
   pub readers : (i : ℕ) → i < s .readers → ReaderTrue s H (hall .readers i)
   pub posted : (m : Message) → hall .posted m → Says H m
 
--- What a step of one agent changes in a hall: no other row, and only new messages come to the post. (Messages may get lost.)
-pub record Changes (who : Agent) (New : Message → Type 0) (hall hall′ : View) : Type 0 where
-  pub coordinators : (c : ℕ) → who ≢ coordinator c → hall′ .coordinators c ≡ hall .coordinators c
-  pub boxes : (b : ℕ) → who ≢ box b → hall′ .boxes b ≡ hall .boxes b
-  pub racks : (k : ℕ) → who ≢ rack k → hall′ .racks k ≡ hall .racks k
-  pub readers : (i : ℕ) → who ≢ reader i → hall′ .readers i ≡ hall .readers i
+-- What a step of one agent changes in a hall: no other agent's row, and only new messages come to the post. (Messages may get lost.)
+pub record Changes (s : Setup) (who : Agent) (New : Message → Type 0) (hall hall′ : View) : Type 0 where
+  pub coordinators : (c : ℕ) → c < s .coordinators → who ≢ coordinator c → hall′ .coordinators c ≡ hall .coordinators c
+  pub boxes : (b : ℕ) → b < s .boxes → who ≢ box b → hall′ .boxes b ≡ hall .boxes b
+  pub racks : (k : ℕ) → k < s .racks → who ≢ rack k → hall′ .racks k ≡ hall .racks k
+  pub readers : (i : ℕ) → i < s .readers → who ≢ reader i → hall′ .readers i ≡ hall .readers i
   pub posted : (m : Message) → hall′ .posted m → hall .posted m ⊎ New m
 
 -- the agent's own row
@@ -48,7 +48,7 @@ OwnTrue s H hall (reader i) = ReaderTrue s H (hall .readers i)
 
 -- a step of one agent keeps the whole hall true
 pub kept-after : (s : Setup) {H H′ : History} {hall hall′ : View} {who : Agent} {New : Message → Type 0} {offers : List Offer} →
-    ((c : ℕ) → c < s .coordinators → c < 4) → Kept s H hall → Moved s who offers H H′ → Changes who New hall hall′ → OwnTrue s H′ hall′ who →
+    ((c : ℕ) → c < s .coordinators → c < 4) → Kept s H hall → Moved s who offers H H′ → Changes s who New hall hall′ → OwnTrue s H′ hall′ who →
     ((m : Message) → New m → Says H′ m) → Kept s H′ hall′
 kept-after s {H} {H′} {hall} {hall′} {who} small kept moved changes own new =
     record {
@@ -56,11 +56,11 @@ kept-after s {H} {H′} {hall} {hall′} {who} small kept moved changes own new 
       coordinators =
           λ c l.
           or-own (coordinator c)
-          (λ n. rw (changes .coordinators c n) (coordinator-stays (moved .grows) c _ (moved .opened c (small c l) n) (kept .coordinators c l)));
+          (λ n. rw (changes .coordinators c l n) (coordinator-stays (moved .grows) c _ (moved .opened c (small c l) n) (kept .coordinators c l)));
       boxes =
-          λ b l. or-own (box b) (λ n. rw (changes .boxes b n) (box-stays b _ (moved .ballots b n) (moved .votes b n) (kept .boxes b l)));
-      racks = λ k l. or-own (rack k) (λ n. rw (changes .racks k n) (rack-stays (moved .grows) k _ (moved .said k n) (kept .racks k l)));
-      readers = λ i l. or-own (reader i) (λ n. rw (changes .readers i n) (reader-stays s (moved .grows) _ (kept .readers i l)));
+          λ b l. or-own (box b) (λ n. rw (changes .boxes b l n) (box-stays b _ (moved .ballots b n) (moved .votes b n) (kept .boxes b l)));
+      racks = λ k l. or-own (rack k) (λ n. rw (changes .racks k l n) (rack-stays (moved .grows) k _ (moved .said k n) (kept .racks k l)));
+      readers = λ i l. or-own (reader i) (λ n. rw (changes .readers i l n) (reader-stays s (moved .grows) _ (kept .readers i l)));
       posted = λ m p. ⊎-elim (λ q. says-stays (moved .grows) m (kept .posted m q)) (new m) (changes .posted m p);
     }
   where

@@ -25,6 +25,7 @@ pub record NewestVote (votes : ℕ → List Page) (rnd v : ℕ) (p : Page) : Typ
   pub newest : votes v ≡ p ∷ older
   pub after : (j : ℕ) → v < j → votes j ≡ []
 
+-- A box's round is its rnd, and all it voted stands in vrnd and vval: no vote at all, or the newest.
 pub record BoxTrue (H : History) (b : ℕ) (r : BoxRow) : Type 0 where
   pub ballot : H .ballot b ≡ key (r .rnd)
   pub none : r .vval .some ≡ false → (j : ℕ) → H .votes b j ≡ []
@@ -47,6 +48,7 @@ pub record CoordinatorTrue (H : History) (c : ℕ) (r : CoordinatorRow) : Type 0
 abbrev pub Shown : Setup → History → Page → Type 0
 Shown s H p = (k : ℕ) → Present (at p k) → Chosen (s .boxes) H k (at p k)
 
+-- What a reader holds was voted and said, and its page is chosen.
 pub record ReaderTrue (s : Setup) (H : History) (r : ReaderRow) : Type 0 where
   pub held : (b : ℕ) → heldAt r b .filled ≡ true → heldAt r b .page ∈ H .votes b (key (heldAt r b .round))
   pub blanks : (k : ℕ) → blankAt r k .filled ≡ true → H .said k (key (blankAt r k .round)) ≡ Nil
@@ -73,17 +75,13 @@ module _ {H H′ : History} where
         opened = λ e. g .opened _ (free (r .prnd .cf)) refl (t .opened e);
       }
 
-  pub heard-stays : Grows H H′ → (r : CoordinatorRow) (b : ℕ) → Told H b (key (r .crnd)) (key (heardAt r b .vrnd)) (heardAt r b .vote) →
-      Told H′ b (key (r .crnd)) (key (heardAt r b .vrnd)) (heardAt r b .vote)
-  heard-stays g r b = told-stays g b (key (r .crnd)) (key (heardAt r b .vrnd)) (heardAt r b .vote)
-
   pub coordinator-stays : Grows H H′ → (c : ℕ) (r : CoordinatorRow) → ((n : ℕ) → H′ .opened (4 * n + c) ≡ H .opened (4 * n + c)) →
       CoordinatorTrue H c r → CoordinatorTrue H′ c r
   coordinator-stays g c r same t =
       record {
         ahead = λ n l. same n ∙ t .ahead n l;
         unopened = λ e v. own e ∙ t .unopened e v;
-        heard = λ b f. heard-stays g r b (t .heard b f);
+        heard = λ b f. told-stays g b (key (r .crnd)) (key (heardAt r b .vrnd)) (heardAt r b .vote) (t .heard b f);
       }
     where
       own : r .crnd .c ≡ c → H′ .opened (key (r .crnd)) ≡ H .opened (key (r .crnd))

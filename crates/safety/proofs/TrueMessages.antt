@@ -2,7 +2,6 @@
 use Prim.Native.Nat.{ℕ}
 use mathlib.Core.Path.{_≡_, refl}
 use mathlib.Core.Bool.{true, false}
-use Rattle.pages.specs.Lines.{isAbsent}
 use Rattle.pages.specs.Pages.{emptyOf}
 use Rattle.rounds.proofs.Ordered.{key}
 use Rattle.records.specs.declared.messages.Propose.{Propose}

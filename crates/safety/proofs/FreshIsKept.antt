@@ -2,27 +2,31 @@
 use Prim.Native.Nat.{ℕ, _<_}
 use native.Mathlib.Omega.{arith}
 use mathlib.Core.Path.{_≡_, refl, sym, ap, _∙_}
-use mathlib.Core.Bool.{true, false, true≢false}
+use lib.Dec.{eqb}
+use borrow.Author.Tests.{eq-eqb}
+use mathlib.Core.Bool.{true, false, cond, true≢false}
+use Rattle.below.specs.Below.{row}
 use Rattle.pages.specs.declared.line.Mark.the-variants.{Absent}
-use Rattle.pages.specs.Pages.{at}
+use Rattle.pages.specs.Pages.{line, at, empty, none, some}
 use Rattle.rounds.specs.declared.setup.Setup.{Setup}
 use Rattle.rounds.specs.declared.round.Round.{Round}
-use Rattle.rounds.specs.Setups.{setupInRange}
+use Rattle.rounds.specs.Setups.{setupInRange, mostRacks, mostBoxes}
 use Rattle.rounds.specs.Rounds.{zeroOf}
 use Rattle.rounds.proofs.Ordered.{key}
 use Rattle.records.specs.declared.rows.CoordinatorRow.{CoordinatorRow}
 use Rattle.records.specs.declared.rows.BoxRow.{BoxRow}
 use Rattle.records.specs.declared.rows.RackRow.{RackRow}
 use Rattle.records.specs.declared.rows.ReaderRow.{ReaderRow}
-use Rattle.records.specs.Slots.{heardAt, heldAt, blankAt}
+use Rattle.records.specs.Slots.{noHeard, noHeld, noBlank, heardAt, heldAt, blankAt}
+use Rattle.records.proofs.RuleParts.{setup-racks}
 use Rattle.history.specs.History.{shut, free, History}
 use Rattle.history.specs.Moves.{fresh}
-use Rattle.history.proofs.Lines.{absent-or-present}
+use Rattle.history.proofs.Lines.{absent-or-present, at-empty}
 use Rattle.history.proofs.Updates.{put-same, put-other}
 use Rattle.history.proofs.FreshIsSound.{fresh-sound}
-use Rattle.safety.proofs.Messages.{Message}
-use Rattle.safety.proofs.Rows.{CoordinatorTrue, BoxTrue, RackTrue, ReaderTrue}
-use Rattle.safety.proofs.InRange.{setup-parts}
+use Rattle.safety.proofs.TrueMessages.{Message}
+use Rattle.safety.proofs.TrueRows.{CoordinatorTrue, BoxTrue, RackTrue, ReaderTrue}
+use Rattle.safety.proofs.Slots.{equal-slots}
 use Rattle.safety.proofs.Views.{View, Kept}
 
 -- what document 01 says of the rows at the start
@@ -42,6 +46,32 @@ pub record FreshReader (r : ReaderRow) : Type 0 where
   pub page : (k : ℕ) → at (r .page) k ≡ Absent
   pub held : (b : ℕ) → heldAt r b .filled ≡ false
   pub blanks : (k : ℕ) → blankAt r k .filled ≡ false
+
+-- the rows that document 01 names are such
+pub fresh-coordinator : (s : Setup) (c : ℕ) →
+    FreshCoordinator s c (record { crnd = zeroOf s; cval = cond (eqb c (s .c0)) (some empty) none; heard = row mostBoxes (λ box. noHeard) })
+unfolding heardAt
+fresh-coordinator s c =
+    record {
+      crnd = refl;
+      cval = λ e. rw (eq-eqb c (s .c0) e);
+      heard = equal-slots (λ slot. slot .filled ≡ false) mostBoxes noHeard _ refl refl;
+    }
+
+pub fresh-box : (s : Setup) → FreshBox s (record { rnd = zeroOf s; vrnd = zeroOf s; vval = none })
+fresh-box s = record { rnd = refl; vval = refl }
+
+pub fresh-rack : (s : Setup) → FreshRack s (record { prnd = zeroOf s; pval = line Absent })
+fresh-rack s = record { prnd = refl }
+
+pub fresh-reader : FreshReader (record { page = empty; held = row mostBoxes (λ box. noHeld); blanks = row mostRacks (λ rack. noBlank) })
+unfolding heldAt blankAt
+fresh-reader =
+    record {
+      page = at-empty;
+      held = equal-slots (λ slot. slot .filled ≡ false) mostBoxes noHeld _ refl refl;
+      blanks = equal-slots (λ slot. slot .filled ≡ false) mostRacks noBlank _ refl refl;
+    }
 
 pub record FreshView (s : Setup) (hall : View) : Type 0 where
   pub coordinators : (c : ℕ) → c < s .coordinators → FreshCoordinator s c (hall .coordinators c)
@@ -83,7 +113,7 @@ module _ (s : Setup) where
   pub fresh-kept : setupInRange s ≡ true → (hall : View) → FreshView s hall → Kept s (freshOf s) hall
   fresh-kept good hall f =
       record {
-        sound = fresh-sound (s .racks) (s .boxes) (key (zeroOf s)) (s .cf0) (setup-parts s good .racks);
+        sound = fresh-sound (s .racks) (s .boxes) (key (zeroOf s)) (s .cf0) (setup-racks s good);
         coordinators = λ c l. coordinator-true c (hall .coordinators c) (f .coordinators c l);
         boxes = λ b l. box-true b (hall .boxes b) (f .boxes b l);
         racks = λ k l. rack-true k (hall .racks k) (f .racks k l);
