@@ -3,9 +3,9 @@ use Prim.Native.Nat.{ℕ, zero, suc, _+_, _≤_, _<_}
 use native.Mathlib.Numerals.{add-one}
 use native.Mathlib.Nat.{le-antisymm}
 use native.Mathlib.Omega.{arith}
-use mathlib.Core.Path.{_≡_, refl, sym, ap, subst, _∙_}
+use mathlib.Core.Path.{_≡_, refl, ap, _∙_}
 use mathlib.Core.List.{List, [], _∷_, _++_, append-nil, append-assoc}
-use lib.ListN.{length, getD, take, drop, set, length-append, length-drop, drop-of-length-le}
+use lib.ListN.{length, getD, drop, set, length-append, length-drop, drop-of-length-le}
 use lib.Seq.{set-at, drop-cons}
 use Rattle.below.specs.Below.{row}
 

@@ -23,12 +23,11 @@ use rounds::Order;
 use rounds::Round;
 use rounds::Setup;
 ghost use mathlib.Core.Path.{_≡_};
-ghost use mathlib.Core.Bool.{cond, not, _&&_, _||_};
+ghost use mathlib.Core.Bool.{cond, not, _&&_};
 ghost use Rattle.below.specs.Refusals.{unless, granted, wrongMessage, wrongRound, alreadyDone};
-ghost use Rattle.pages.specs.Lines.{isReading};
 ghost use Rattle.pages.specs.Racks.{outside};
-ghost use Rattle.pages.specs.Pages.{empty, emptyOf, appendOf, nilExtension};
-ghost use Rattle.rounds.specs.Rounds.{orderOf, isAbove, isBelow, isEqual, isClash, isUpTo};
+ghost use Rattle.pages.specs.Pages.{empty, appendOf, nilExtension};
+ghost use Rattle.rounds.specs.Rounds.{orderOf, isAbove, isClash, isUpTo};
 ghost use Rattle.boxes.specs.Steps.{joinOf, takePageOf, takeReadingOf, voted, telling, noTwoB};
 
 fn join_refusal(rnd: Round, round: Round) -> u8

@@ -6,4 +6,3 @@ pub mod OpenPage
 pub mod RulesKept
 pub mod Shape
 pub mod Unique
-pub mod CasesOfOpen

@@ -1,5 +1,5 @@
 // Slots, each a flag and what was heard or is held, and the arrays of them that a row has.
-ghost use mathlib.Core.Path.{_≡_};
+
 ghost use Prim.Native.Nat.{_+_, _≤_};
 ghost use lib.ListN.{length};
 ghost use Rattle.words.specs.Bytes.{Spliced};

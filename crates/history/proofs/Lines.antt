@@ -1,11 +1,11 @@
 -- Laws of lines and pages that the history needs beside those of `pages`: what a present line of a built page is.
-use Prim.Native.Nat.{ℕ, _≤_, _<_}
+use Prim.Native.Nat.{ℕ, _<_}
 use native.Mathlib.Omega.{arith}
 use native.Mathlib.Decide.{decLt}
 use lib.Dec.{eqb}
 use mathlib.Core.Path.{_≡_, refl, sym, ap, subst, _∙_}
 use mathlib.Core.Bool.{Bool, true, false, cond, false≢true, true≢false}
-use mathlib.Core.Logic.{_⊎_, inl, inr, ⊎-elim, ⊎-map}
+use mathlib.Core.Logic.{_⊎_, inl, inr, ⊎-map}
 use borrow.Author.Tests.{eq-eqb}
 use Rattle.below.proofs.Tests.{not-false-true}
 use Rattle.pages.specs.declared.line.Reading.{Reading}

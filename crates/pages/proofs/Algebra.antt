@@ -5,7 +5,6 @@ use lib.Dec.{eqb}
 use mathlib.Core.Path.{_≡_, refl, sym, ap, subst, _∙_}
 use mathlib.Core.Bool.{Bool, true, false, cond, true≢false}
 use mathlib.Core.Logic.{_↔_}
-use Rattle.below.proofs.Tests.{not-true-false}
 use Rattle.pages.specs.declared.line.Mark.{Mark}
 use Rattle.pages.specs.declared.line.Mark.the-variants.{Nil}
 use Rattle.pages.specs.Lines.{isAbsent, isNil, isReading, appendMark, prefixMark, compatibleMark}

@@ -4,7 +4,6 @@ use mathlib.Core.Path.{_≡_, ap, sym, subst, _∙_}
 use mathlib.Core.List.{List, map}
 use lib.ListN.{length, set, length-map, List·getD-eq-default}
 use mathlib.Core.Bool.{Bool, false, _&&_, _||_}
-use Rattle.below.specs.Below.{row}
 use Rattle.below.proofs.Rows.{row-at, row-past, row-same, filled, filled-start, filled-more, filled-ends}
 use Rattle.pages.specs.declared.line.Mark.{Mark}
 use Rattle.pages.specs.declared.line.Mark.the-variants.{Absent, Nil, Reading as reads}

@@ -1,8 +1,6 @@
 -- Laws of one line: each is a fact about the three states, and every law of pages comes from these.
-use mathlib.Core.Path.{_≡_, refl, sym, ap, subst, _∙_}
-use mathlib.Core.Bool.{Bool, true, false, false≢true, true≢false}
-use mathlib.Core.Logic.{_⊎_, inl, inr}
-use lib.Dec.{eqb}
+use mathlib.Core.Path.{_≡_, refl, sym, ap, subst}
+use mathlib.Core.Bool.{true, false, false≢true, true≢false}
 use borrow.Author.Tests.{eqb-true, eq-eqb}
 use Rattle.pages.specs.declared.line.Reading
 use Rattle.pages.specs.declared.line.Mark.{Mark}

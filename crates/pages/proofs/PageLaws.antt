@@ -1,18 +1,16 @@
 -- The tests and operations on pages, read line by line: what joins the definitions to the algebra.
 use Prim.Native.Nat.{ℕ, _<_}
-use lib.Dec.{eqb}
-use mathlib.Core.Path.{_≡_, refl, sym, ap, subst, _∙_}
-use mathlib.Core.Bool.{Bool, true, false, cond, not, _&&_, _||_, true≢false}
-use borrow.Author.Tests.{not-true, not-false}
-use Rattle.below.specs.Below.{all, any}
-use Rattle.below.proofs.Tests.{all-at, all-true, any-at, any-true, and-left, and-right, and-true, not-true-false, or-cases}
+use mathlib.Core.Path.{_≡_, refl, ap, subst}
+use mathlib.Core.Bool.{Bool, true, false, cond, not, _&&_, _||_}
+use borrow.Author.Tests.{not-true}
+use Rattle.below.proofs.Tests.{all-at, all-true, any-at, any-true, and-left, and-right, and-true}
 use Rattle.pages.specs.declared.line.Mark.{Mark}
 use Rattle.pages.specs.declared.line.Mark.the-variants.{Absent, Nil}
 use Rattle.pages.specs.declared.page.Page.{Page}
 use Rattle.pages.specs.Lines.{isAbsent, isNil, isReading, markInRange, appendMark, prefixMark, compatibleMark}
 use Rattle.pages.specs.Racks.{mostRacks}
-use Rattle.pages.specs.Pages.{at, page, empty, appendOf, prefixOf, compatibleOf, unionOf, joinOf, some, none, nilExtension, completeOf, trivialOf, valuedOf, emptyOf, withinOf}
-use Rattle.pages.proofs.Algebra.{Lines, Prefix, Compatible, Complete, Valued, Trivial, appendLines, joinLines, nilLines}
+use Rattle.pages.specs.Pages.{at, empty, appendOf, prefixOf, compatibleOf, unionOf, joinOf, some, none, nilExtension, completeOf, trivialOf, valuedOf, emptyOf, withinOf}
+use Rattle.pages.proofs.Algebra.{Prefix, Compatible, Complete, Valued, appendLines, joinLines, nilLines}
 use Rattle.pages.proofs.Algebra as A
 use Rattle.pages.proofs.Filled.{at-page, page-same}
 

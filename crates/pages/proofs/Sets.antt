@@ -1,12 +1,11 @@
 -- Laws of sets of racks as bits, and of the loop that builds one from the highest rack down.
-use Prim.Native.Nat.{ℕ, zero, suc, pred, _+_, _-_, _*_, _/_, _%_, _^_, _≤_, _<_}
+use Prim.Native.Nat.{ℕ, zero, suc, _+_, _-_, _*_, _/_, _%_, _^_, _≤_, _<_}
 use native.Mathlib.Omega.{arith}
 use native.Mathlib.Nat.{div-div-eq-div-mul, div-eq-of-lt, pow-succ', div-one, sub-self, sub-zero, mod-eq-of-lt, add-zero, zero-add}
-use native.Mathlib.Numerals.{add-one, sub-one}
-use lib.Dec.{eqb, ltb}
+use lib.Dec.{eqb}
 use borrow.Author.Tests.{lt-ltb, le-ltb}
-use lib.Pow.{pow-mono, pow-pos}
-use mathlib.Core.Path.{_≡_, refl, sym, ap, subst, _∙_}
+use lib.Pow.{pow-mono}
+use mathlib.Core.Path.{_≡_, refl, sym, ap, _∙_}
 use mathlib.Core.Bool.{Bool, true, false, cond, not}
 use Rattle.pages.specs.Racks.{has, setOf, outside}
 

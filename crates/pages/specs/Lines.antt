@@ -1,5 +1,4 @@
 -- Readings and lines. A line is absent, Nil (blank) or a reading.
-use Prim.Native.Nat.{ℕ}
 use lib.Dec.{leb, eqb}
 use mathlib.Core.Bool.{Bool, true, false, _&&_, _||_}
 use Rattle.pages.specs.declared.line.Reading

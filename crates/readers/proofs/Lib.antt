@@ -9,4 +9,3 @@ pub mod GrantedNotes
 pub mod RulesKept
 pub mod Shape
 pub mod Unique
-pub mod Cases

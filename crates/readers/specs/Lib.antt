@@ -1,4 +1,3 @@
 pub mod Notes
 pub mod Learning
 pub mod Counting
-pub mod Cases

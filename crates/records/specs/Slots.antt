@@ -2,7 +2,7 @@
 use Prim.Native.Nat.{ℕ}
 use lib.ListN.{getD}
 use mathlib.Core.Bool.{false}
-use mathlib.Core.List.{List, []}
+use mathlib.Core.List.{[]}
 use Rattle.pages.specs.Pages.{empty, none}
 use Rattle.rounds.specs.declared.round.Round.{Round}
 use Rattle.rounds.specs.Rounds.{roundOf}

@@ -7,7 +7,7 @@ use rounds::Number;
 use rounds::Round;
 use rounds::Setup;
 ghost use mathlib.Core.Path.{_≡_};
-ghost use Rattle.records.specs.Rules.{nothingHeard, nothingHeld, filledHeard, heardRules, heldRules, blankRules};
+ghost use Rattle.records.specs.Rules.{nothingHeard, filledHeard, heardRules, heldRules, blankRules};
 
 // What a coordinator heard of one box.
 pub struct Heard {

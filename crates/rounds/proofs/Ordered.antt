@@ -1,19 +1,18 @@
 -- What the comparison of two rounds means: order by n, then c; equal only if all three agree; a clash otherwise.
-use Prim.Native.Nat.{ℕ, suc, _+_, _*_, _≤_, _<_}
+use Prim.Native.Nat.{ℕ, _+_, _*_, _≤_, _<_}
 use native.Mathlib.Omega.{arith}
 use lib.Dec.{leb, ltb, eqb}
 use native.Mathlib.Decide.{decLt}
 use borrow.Author.Tests.{ltb-true, ltb-false, leb-true, eqb-true, eqb-false}
-use mathlib.Core.Path.{_≡_, refl, sym, ap, subst, _∙_}
-use mathlib.Core.Bool.{Bool, true, false, cond, not, _&&_, _||_, true≢false, false≢true}
+use mathlib.Core.Path.{_≡_, refl, sym, subst}
+use mathlib.Core.Bool.{Bool, true, false, cond, not, _&&_, _||_, false≢true}
 use mathlib.Core.Logic.{_⊎_, inl, inr, ⊎-elim}
-use Rattle.below.proofs.Tests.{and-left, and-right, or-cases, decided}
+use Rattle.below.proofs.Tests.{and-left, and-right}
 use Rattle.rounds.specs.declared.setup.Setup.{Setup}
-use Rattle.rounds.specs.declared.round.Number.{Number}
 use Rattle.rounds.specs.declared.round.Round.{Round}
 use Rattle.rounds.specs.declared.order.Order.{Order}
 use Rattle.rounds.specs.declared.order.Order.the-variants.{Below, Equal, Above, Clash}
-use Rattle.rounds.specs.Rounds.{zeroOf, roundOf, sameRound, roundInRange, orderOf, isBelow, isEqual, isAbove, isClash, isUpTo, largestNumber}
+use Rattle.rounds.specs.Rounds.{zeroOf, sameRound, roundInRange, orderOf, isBelow, isEqual, isAbove, isUpTo, largestNumber}
 use Rattle.rounds.specs.Setups.{someRacks}
 
 -- by n, then c

@@ -6,7 +6,7 @@ use lib.Dec.{leb, ltb, eqb}
 use lib.Pow.{pow-mono, pow-pos}
 use borrow.Author.Tests.{lt-ltb, le-ltb, eq-eqb, ltb-true, eqb-true}
 use mathlib.Core.Path.{_≡_, _∙_}
-use mathlib.Core.Bool.{Bool, true, false}
+use mathlib.Core.Bool.{true, false}
 use Rattle.below.proofs.Tests.{same-yes}
 use Rattle.rounds.specs.Setups.{oneTo, someRacks}
 

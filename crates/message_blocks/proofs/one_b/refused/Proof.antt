@@ -1,6 +1,5 @@
 use mathlib.Core.Path.{refl}
 use Rattle.below.specs.Below.{row}
-use Rattle.pages.specs.Pages.{empty, page}
 use Rattle.message_blocks.proofs.one_b.refused.Statement.{statement}
 use Rattle.message_blocks.proofs.one_b.refused.Tie as tie
 

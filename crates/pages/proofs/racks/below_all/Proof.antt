@@ -2,8 +2,6 @@ use Rattle.pages.proofs.Sets.{bit-yes, bit-no}
 use borrow.Author.Needs.{needs}
 use Rattle.pages.proofs.racks.below_all.Statement.{statement}
 use Rattle.pages.proofs.racks.below_all.Tie as tie
-use Rattle.pages.proofs.racks.below_all.Reads as reads
-use Rattle.pages.proofs.racks.below_all.Lts as lts
 
 -- src/racks.rt:21:14
 mul-up : tie.Need-mul-up

@@ -2,8 +2,6 @@ use Rattle.pages.proofs.Sets.{has-none}
 use borrow.Author.Needs.{needs}
 use Rattle.pages.proofs.racks.has.Statement.{statement}
 use Rattle.pages.proofs.racks.has.Tie as tie
-use Rattle.pages.proofs.racks.has.Reads as reads
-use Rattle.pages.proofs.racks.has.Lts as lts
 
 -- src/racks.rt:11:17
 cast-result : tie.Need-cast-result

@@ -2,9 +2,6 @@ use Rattle.pages.proofs.Sets.{outside-of-cf, outside-of-hall}
 use borrow.Author.Needs.{needs}
 use Rattle.pages.proofs.racks.is_outside.Statement.{statement}
 use Rattle.pages.proofs.racks.is_outside.Tie as tie
-use Rattle.pages.proofs.racks.is_outside.Reads as reads
-use Rattle.pages.proofs.racks.is_outside.Lts as lts
-use Rattle.pages.proofs.racks.has.Reads as has-reads
 
 -- src/racks.rt:30:10
 has-requires : tie.Need-has-requires

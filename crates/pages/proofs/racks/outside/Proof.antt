@@ -5,10 +5,6 @@ use Rattle.pages.proofs.Sets.{setFrom, set-start, set-ends, outside-mor
 use borrow.Author.Needs.{needs}
 use Rattle.pages.proofs.racks.outside.Statement.{statement}
 use Rattle.pages.proofs.racks.outside.Tie as tie
-use Rattle.pages.proofs.racks.outside.Reads as reads
-use Rattle.pages.proofs.racks.outside.Lts as lts
-use Rattle.pages.proofs.racks.below_all.Reads as below-all-reads
-use Rattle.pages.proofs.racks.is_outside.Reads as is-outside-reads
 
 abbrev Inv-loop : tie.InvT-loop
 Inv-loop cf racks set₀ rack₀ set rack = (rack ≤ 8) × (set ≡ setFrom 8 (outside cf racks) rack)

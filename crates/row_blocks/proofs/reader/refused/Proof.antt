@@ -1,6 +1,5 @@
 use mathlib.Core.Path.{refl}
 use Rattle.below.specs.Below.{row}
-use Rattle.pages.specs.Pages.{empty, page}
 use Rattle.row_blocks.proofs.reader.refused.Statement.{statement}
 use Rattle.row_blocks.proofs.reader.refused.Tie as tie
 

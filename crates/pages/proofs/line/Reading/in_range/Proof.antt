@@ -1,8 +1,6 @@
 use borrow.Author.Tests.{le-leb, lt-leb}
 use Rattle.pages.proofs.line.Reading.in_range.Statement.{statement}
 use Rattle.pages.proofs.line.Reading.in_range.Tie as tie
-use Rattle.pages.proofs.line.Reading.in_range.Reads as reads
-use Rattle.pages.proofs.line.Reading.in_range.Lts as lts
 
 -- src/line.rt:24:5
 returns : tie.Need-returns
