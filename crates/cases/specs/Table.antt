@@ -1,9 +1,10 @@
 -- The marked cases of document 01, 'Both sides of each edge', a line each. A case is a test on the definitions that contracts cite.
 use Prim.Native.Nat.{ℕ}
 use lib.Dec.{eqb}
-use mathlib.Core.Bool.{Bool, true, _&&_}
+use mathlib.Core.Bool.{Bool, true, cond, _&&_}
 use mathlib.Core.List.{List, [], _∷_, _++_}
 use Rattle.rounds.specs.Setups.{majorityOf}
+use Rattle.words.specs.Sums.{words, firstSum, secondSum}
 use Rattle.rounds.specs.Rounds.{roundOf, orderOf, isBelow, isAbove}
 
 -- Zero is below (1,0); (1,1) above (1,0); (2,0) above (1,3): with any c0 and any sets of racks
@@ -24,9 +25,25 @@ majorityCases =
     eqb (majorityOf 5) 3 ∷
     []
 
+-- check words: all words zero, and one word that is not (other words zero)
+abbrev pub oneWord : ℕ → ℕ → ℕ → ℕ
+oneWord place value k = cond (eqb k place) value 0
+
+abbrev pub checkCase : ℕ → ℕ → ℕ → ℕ → Bool
+checkCase place value first second =
+    eqb (firstSum words (oneWord place value)) first && eqb (secondSum words (oneWord place value)) second
+
+unfoldable pub checkCases : List Bool
+checkCases =
+    checkCase 0 0 1 126 ∷
+    checkCase 0 5 6 756 ∷
+    checkCase 125 5 6 131 ∷
+    checkCase 0 4294967295 0 0 ∷
+    []
+
 -- the one table
 unfoldable pub table : ℕ → ℕ → ℕ → List Bool
-table c0 cf0 cf = roundCases c0 cf0 cf ++ majorityCases
+table c0 cf0 cf = roundCases c0 cf0 cf ++ majorityCases ++ checkCases
 
 abbrev pub allHold : List Bool → Bool
 allHold [] = true
