@@ -1,4 +1,4 @@
--- Laws of the check words: one turn of the loop, and the marked cases of document 01.
+-- Laws of the check words: one turn of the loop that adds them up, and words that agree.
 use Prim.Native.Nat.{ℕ, zero, suc, _+_, _%_, _^_, _≤_, _<_}
 use native.Mathlib.Omega.{arith}
 use native.Mathlib.Nat.{le-antisymm}
