@@ -1,0 +1,161 @@
+/*
+ * The verified library as a process of its own: reads calls from standard
+ * input, makes them through the C interface, and writes back the answer and
+ * every lent byte.
+ *
+ * It is for machines that the library's archive is not made for: this program
+ * then runs under an emulator, and the agreement program beside it natively.
+ * Freestanding and for x86-64 Linux, like the archive, which asks for nothing
+ * but memcpy, memmove and memset:
+ *
+ *   clang --target=x86_64-linux-gnu -O2 -ffreestanding -fno-stack-protector \
+ *         -nostdlib -static -fuse-ld=lld -o answerer answerer.c libchinchor.a
+ *
+ * A call is eleven words of four bytes: the function (1 setup, 2 hall step,
+ * 3 box step, 4 book), its seven numbers (0 for the book) and the lengths in
+ * bytes of what is lent, in the order of the C interface (0 where there is no
+ * second or third); then those bytes. The answer is eight bytes, then all that
+ * was lent, as it is after the call. All numbers are little-endian. A call that
+ * touches bytes around what it is lent ends the program with status 3.
+ */
+#include <stddef.h>
+#include <stdint.h>
+
+uint32_t chinchor_box_step(uint8_t *row, size_t row_len, const uint8_t *message,
+                           size_t message_len, uint8_t *sent, size_t sent_len, uint32_t code,
+                           uint32_t agent, uint32_t message_number, uint32_t n, uint32_t c,
+                           uint32_t cf, uint32_t reading);
+uint32_t chinchor_hall_setup(uint8_t *hall, size_t hall_len, uint32_t instance, uint32_t racks,
+                             uint32_t boxes, uint32_t coordinators, uint32_t readers, uint32_t c0,
+                             uint32_t cf0);
+uint32_t chinchor_hall_step(uint8_t *hall, size_t hall_len, uint32_t code, uint32_t agent,
+                            uint32_t message_number, uint32_t n, uint32_t c, uint32_t cf,
+                            uint32_t reading);
+uint64_t chinchor_book(const uint8_t *blocks, size_t blocks_len, uint32_t *list, size_t list_len);
+
+enum { ROOM = 1 << 17, GUARD = 64, PAINT = 0xee };
+
+/* Three lent buffers, each between guards that no call may touch. */
+static uint8_t room[3][GUARD + ROOM + GUARD] __attribute__((aligned(64)));
+
+static long system_call(long number, long a, long b, long c)
+{
+    long result;
+    __asm__ volatile("syscall"
+                     : "=a"(result)
+                     : "a"(number), "D"(a), "S"(b), "d"(c)
+                     : "rcx", "r11", "memory");
+    return result;
+}
+
+enum { READ = 0, WRITE = 1, EXIT = 60 };
+
+__attribute__((noreturn)) static void leave(int status)
+{
+    for (;;)
+        system_call(EXIT, status, 0, 0);
+}
+
+/* All of it, or the end of the program: 0 at the end of the input. */
+static void read_all(void *to, size_t length)
+{
+    for (uint8_t *at = to; length > 0;) {
+        long got = system_call(READ, 0, (long)at, (long)length);
+        if (got <= 0)
+            leave(got == 0 ? 0 : 1);
+        at += got;
+        length -= (size_t)got;
+    }
+}
+
+static void write_all(const void *from, size_t length)
+{
+    for (const uint8_t *at = from; length > 0;) {
+        long put = system_call(WRITE, 1, (long)at, (long)length);
+        if (put <= 0)
+            leave(1);
+        at += put;
+        length -= (size_t)put;
+    }
+}
+
+static void paint(uint8_t *buffer, size_t length)
+{
+    for (size_t at = 0; at < GUARD; at++)
+        buffer[at] = buffer[GUARD + length + at] = PAINT;
+}
+
+static void check_paint(const uint8_t *buffer, size_t length)
+{
+    for (size_t at = 0; at < GUARD; at++)
+        if (buffer[at] != PAINT || buffer[GUARD + length + at] != PAINT)
+            leave(3);
+}
+
+static void answer_one(void)
+{
+    uint32_t call[11];
+    read_all(call, sizeof call);
+    const uint32_t *k = call + 1, *length = call + 8;
+    uint8_t *lent[3];
+    for (int i = 0; i < 3; i++) {
+        if (length[i] > ROOM)
+            leave(2);
+        paint(room[i], length[i]);
+        lent[i] = room[i] + GUARD;
+        read_all(lent[i], length[i]);
+    }
+    uint64_t answer;
+    switch (call[0]) {
+    case 1:
+        answer = chinchor_hall_setup(lent[0], length[0], k[0], k[1], k[2], k[3], k[4], k[5], k[6]);
+        break;
+    case 2:
+        answer = chinchor_hall_step(lent[0], length[0], k[0], k[1], k[2], k[3], k[4], k[5], k[6]);
+        break;
+    case 3:
+        answer = chinchor_box_step(lent[0], length[0], lent[1], length[1], lent[2], length[2], k[0],
+                                   k[1], k[2], k[3], k[4], k[5], k[6]);
+        break;
+    case 4:
+        answer = chinchor_book(lent[0], length[0], (uint32_t *)lent[1], length[1] / 4);
+        break;
+    default:
+        leave(2);
+    }
+    for (int i = 0; i < 3; i++)
+        check_paint(room[i], length[i]);
+    write_all(&answer, sizeof answer);
+    for (int i = 0; i < 3; i++)
+        write_all(lent[i], length[i]);
+}
+
+__attribute__((force_align_arg_pointer, noreturn)) void _start(void)
+{
+    for (;;)
+        answer_one();
+}
+
+/* What the archive asks of its surroundings. */
+void *memcpy(void *to, const void *from, size_t length)
+{
+    for (size_t at = 0; at < length; at++)
+        ((uint8_t *)to)[at] = ((const uint8_t *)from)[at];
+    return to;
+}
+
+void *memmove(void *to, const void *from, size_t length)
+{
+    if ((uintptr_t)to <= (uintptr_t)from)
+        return memcpy(to, from, length);
+    while (length-- > 0)
+        ((uint8_t *)to)[length] = ((const uint8_t *)from)[length];
+    return to;
+}
+
+void *memset(void *to, int byte, size_t length)
+{
+    for (size_t at = 0; at < length; at++)
+        ((uint8_t *)to)[at] = (uint8_t)byte;
+    return to;
+}
