@@ -4,3 +4,4 @@ pub mod Answered
 pub mod Theorems
 pub mod Ranges
 pub mod Kept
+pub mod Unique

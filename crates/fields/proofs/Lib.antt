@@ -3,3 +3,4 @@ pub mod Lawful
 pub mod Times
 pub mod Fitted
 pub mod Joined
+pub mod Unique

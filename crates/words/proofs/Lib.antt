@@ -1,3 +1,4 @@
 pub mod Splices
 pub mod Zeroes
 pub mod Summed
+pub mod Unique
