@@ -1,20 +1,20 @@
 -- The parts of a block around its body are lawful, and so are its words as a whole.
-use Prim.Native.Nat.{ℕ, zero, suc, _+_, _-_, _*_, _/_, _%_, _^_, _≤_, _<_}
+use Prim.Native.Nat.{ℕ, zero, suc, _+_, _-_, _*_, _/_, _%_, _≤_, _<_}
 use native.Mathlib.Omega.{arith}
 use native.Mathlib.Decide.{decLt}
 use lib.Dec.{eqb}
-use lib.ListN.{length, replicate, length-replicate, getD-replicate, List·getD-eq-default}
+use lib.ListN.{length, length-replicate, getD-replicate, List·getD-eq-default}
 use mathlib.Core.Path.{_≡_, refl, sym, ap, subst, _∙_}
-use mathlib.Core.Bool.{Bool, true, _&&_}
+use mathlib.Core.Bool.{Bool, _&&_}
 use mathlib.Core.List.{List, [], _∷_, _++_}
 use borrow.Author.Tests.{eqb-true, eq-eqb}
 use Rattle.records.specs.declared.stamp.Stamp.{Stamp}
-use Rattle.words.specs.Bytes.{byte, Small, number4, bytes4, zeros, zeroAt, splice, Spliced}
+use Rattle.words.specs.Bytes.{byte, number4, bytes4, zeros, zeroAt, splice, Spliced}
 use Rattle.words.specs.Sums.{words, wordOf, firstSum, secondSum, firstOf, secondOf}
 use Rattle.words.proofs.Zeroes.{zero-at, zero-true, zero-parts}
 use Rattle.words.proofs.Splices.{next}
 use Rattle.words.proofs.Summed.{first-same, second-same}
-use Rattle.fields.specs.Codecs.{Codec, oneByte, twoBytes, both, like}
+use Rattle.fields.specs.Codecs.{Codec, oneByte, twoBytes, both}
 use Rattle.fields.proofs.Cuts.{cut, length-cut, cut-at, cut-byte, ext}
 use Rattle.fields.proofs.Lawful.{Lawful, one-lawful, two-lawful, both-lawful, like-lawful}
 use Rattle.fields.proofs.Fitted.{Any}

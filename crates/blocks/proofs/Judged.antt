@@ -1,19 +1,17 @@
 -- Once over the generic kind: the length and the bytes of an encoding, both round trips, and what makes a block good.
-use Prim.Native.Nat.{ℕ, zero, suc, _+_, _-_, _≤_, _<_}
+use Prim.Native.Nat.{ℕ, _+_, _-_, _≤_, _<_}
 use native.Mathlib.Omega.{arith}
 use native.Mathlib.Nat.{zero-add}
 use lib.Dec.{eqb}
-use lib.ListN.{length, length-append, List·getD-append}
+use lib.ListN.{length, length-append}
 use mathlib.Core.Path.{_≡_, refl, sym, ap, subst, _∙_}
 use mathlib.Core.Bool.{Bool, true, _&&_}
 use mathlib.Core.List.{List, [], _++_}
 use borrow.Author.Tests.{eqb-true, eq-eqb}
-use Rattle.below.specs.Below.{all}
 use Rattle.below.proofs.Tests.{all-at, all-true, same-yes, and-true, and-left, and-right}
 use Rattle.records.specs.declared.stamp.Stamp.{Stamp}
 use Rattle.words.specs.Bytes.{byte, Small, number4, bytes4, zeroAt}
 use Rattle.words.specs.Sums.{words, wordOf, firstOf, secondOf}
-use Rattle.fields.specs.Codecs.{fourBytes}
 use Rattle.fields.proofs.Cuts.{cut, length-cut, cut-parts, cut-all, cut-byte, cut-middle, ext, front-same, rest-same}
 use Rattle.fields.proofs.Lawful.{Lawful, four-lawful, small-join}
 use Rattle.blocks.specs.Frame.{blockSize, wordsEnd, bodyAt, framed, checks}

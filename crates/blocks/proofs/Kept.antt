@@ -3,13 +3,13 @@
 use Prim.Native.Nat.{ℕ, _≤_}
 use lib.ListN.{length}
 use mathlib.Core.Path.{_≡_}
-use mathlib.Core.Bool.{Bool, true, _&&_}
+use mathlib.Core.Bool.{true}
 use mathlib.Core.List.{List}
 use Rattle.below.proofs.Tests.{and-left, and-right}
 use Rattle.records.specs.declared.stamp.Stamp.{Stamp}
 use Rattle.records.specs.Rules.{stampRules}
 use Rattle.words.specs.Bytes.{Small}
-use Rattle.blocks.specs.Frame.{blockSize, bodyAt}
+use Rattle.blocks.specs.Frame.{blockSize}
 use Rattle.blocks.specs.Kinds.{Kind, encode, decode, kept, good}
 use Rattle.blocks.proofs.Framing.{StampFits}
 use Rattle.blocks.proofs.Judged.{Proper, encode-length, encode-small, decode-encode, encode-decode, encode-good, good-kept}

@@ -1,21 +1,19 @@
 -- Values that keep the rules fit their bytes.
-use Prim.Native.Nat.{ℕ, zero, suc, _+_, _^_, _≤_, _<_}
+use Prim.Native.Nat.{ℕ, _^_, _≤_, _<_}
 use native.Mathlib.Omega.{arith}
 use lib.Dec.{eqb, leb, ltb}
 use lib.ListN.{length, getD}
 use lib.Pow.{pow-mono}
-use mathlib.Core.Path.{_≡_, refl, sym, ap, subst, _∙_}
+use mathlib.Core.Path.{_≡_}
 use mathlib.Core.Bool.{Bool, true, false, cond, not, _&&_, _||_, false≢true}
-use mathlib.Core.List.{List}
 use borrow.Author.Tests.{eqb-true, leb-true, ltb-true}
-use Rattle.below.specs.Below.{all}
 use Rattle.below.proofs.Tests.{and-left, and-right, all-at}
 use Rattle.pages.specs.declared.line.Mark.{Mark}
 use Rattle.pages.specs.declared.line.Mark.the-variants.{Absent, Nil, Reading as reads}
 use Rattle.pages.specs.declared.line.Line.{Line}
 use Rattle.pages.specs.declared.page.Page.{Page}
 use Rattle.pages.specs.declared.page.Vote.{Vote}
-use Rattle.pages.specs.Lines.{readingInRange, isAbsent, markInRange}
+use Rattle.pages.specs.Lines.{isAbsent, markInRange}
 use Rattle.pages.specs.Racks.{mostRacks, racksBelow}
 use Rattle.pages.specs.Pages.{line, at, withinOf, emptyOf}
 use Rattle.rounds.specs.declared.setup.Setup.{Setup}

@@ -2,7 +2,7 @@
 -- rules encodes to it, and then its check words are the document's sums; and the contracts of reader and writer leave no choice.
 use Prim.Native.Nat.{ℕ, _+_, _-_, _<_}
 use lib.Dec.{eqb}
-use mathlib.Core.Path.{_≡_, refl, sym, ap, subst, _∙_}
+use mathlib.Core.Path.{_≡_, sym, ap, subst, _∙_}
 use mathlib.Core.Bool.{Bool, true, _&&_}
 use mathlib.Core.List.{List}
 use borrow.Author.Tests.{eqb-true}
@@ -11,8 +11,8 @@ use Rattle.records.specs.declared.stamp.Stamp.{Stamp}
 use Rattle.words.specs.Bytes.{byte, Small, number4, zeroAt}
 use Rattle.words.specs.Sums.{firstOf, secondOf}
 use Rattle.words.proofs.Zeroes.{zero-at}
-use Rattle.blocks.specs.Frame.{blockSize, wordsEnd, bodyAt, framed}
-use Rattle.blocks.specs.Kinds.{Kind, encode, decode, kept, good}
+use Rattle.blocks.specs.Frame.{wordsEnd, bodyAt, framed}
+use Rattle.blocks.specs.Kinds.{Kind, encode, kept, good}
 use Rattle.blocks.specs.Answers.{Reads, Writes}
 use Rattle.blocks.proofs.Framing.{StampFits}
 use Rattle.blocks.proofs.Judged.{Proper, encode-decode, encode-good, good-length, same-framed}

@@ -1,11 +1,11 @@
 -- The n bytes at a place, as a list of length n whatever the surroundings; and lists that agree part by part.
-use Prim.Native.Nat.{ℕ, zero, suc, _+_, _-_, _≤_, _<_}
+use Prim.Native.Nat.{ℕ, _+_, _-_, _<_}
 use native.Mathlib.Omega.{arith}
 use native.Mathlib.Nat.{zero-add}
 use native.Mathlib.Decide.{decLt}
 use mathlib.Core.Path.{_≡_, refl, sym, ap, subst, _∙_}
-use mathlib.Core.List.{List, [], _∷_, _++_}
-use lib.ListN.{length, getD, take, drop, List·getD-append, length-append}
+use mathlib.Core.List.{List, _++_}
+use lib.ListN.{length, take, drop, List·getD-append, length-append}
 use lib.Seq.{take-at, drop-at, getD-append-add, ext-getD}
 use Rattle.below.specs.Below.{row}
 use Rattle.below.proofs.Rows.{length-row, row-at, row-same, row-of-list}

@@ -1,12 +1,11 @@
 -- Which values fit their field, and that every field of the layout is lawful.
-use Prim.Native.Nat.{ℕ, zero, suc, _+_, _≤_, _<_}
+use Prim.Native.Nat.{ℕ, zero, suc, _≤_, _<_}
 use native.Mathlib.Omega.{arith}
 use lib.Dec.{eqb, leb}
 use mathlib.Core.Path.{_≡_, refl, sym, ap, subst, _∙_}
-use mathlib.Core.Bool.{Bool, true, false, cond, _&&_}
-use mathlib.Core.List.{List}
+use mathlib.Core.Bool.{Bool, true, false, cond}
 use borrow.Author.Tests.{eqb-true, eq-eqb, leb-true, le-leb, ne-eqb}
-use Rattle.below.proofs.Tests.{and-left, and-right, and-true}
+use Rattle.below.proofs.Tests.{and-left}
 use Rattle.pages.specs.declared.line.Reading
 use Rattle.pages.specs.declared.line.Mark.{Mark}
 use Rattle.pages.specs.declared.line.Mark.the-variants.{Absent, Nil, Reading as reads}
@@ -20,8 +19,8 @@ use Rattle.rounds.specs.Setups.{mostBoxes}
 use Rattle.records.specs.declared.slots.Heard.{Heard}
 use Rattle.records.specs.declared.slots.Held.{Held}
 use Rattle.records.specs.declared.slots.Blank.{Blank}
-use Rattle.records.specs.Slots.{noRound, noBlank}
-use Rattle.fields.specs.Codecs.{Codec, oneByte, twoBytes, fourBytes, both, like, some, times}
+use Rattle.records.specs.Slots.{noBlank}
+use Rattle.fields.specs.Codecs.{oneByte, twoBytes, fourBytes, both, some, times}
 use Rattle.fields.specs.Layout.{flag, round, reading, noReading, isNoReading, stateOf, payloadOf, lineOf, lineExact, lineAs, page, vote, heard, held, blank, fiveHeard, fiveHeld, eightBlanks, pastHeard, pastHeld}
 use Rattle.fields.proofs.Lawful.{Lawful, one-lawful, two-lawful, four-lawful, both-lawful, like-lawful, some-lawful}
 use Rattle.fields.proofs.Times.{Listed, times-lawful}

@@ -1,18 +1,18 @@
 -- What a codec promises, and that joined codecs promise it.
-use Prim.Native.Nat.{ℕ, zero, suc, _+_, _*_, _/_, _%_, _-_, _≤_, _<_}
+use Prim.Native.Nat.{ℕ, zero, suc, _+_, _*_, _/_, _%_, _-_, _<_}
 use native.Mathlib.Omega.{arith}
 use native.Mathlib.Nat.{add-zero}
 use mathlib.Core.Path.{_≡_, refl, sym, ap, subst, _∙_}
 use mathlib.Core.Bool.{Bool, true, _&&_}
 use mathlib.Core.List.{List, [], _∷_, _++_}
-use lib.ListN.{length, getD, length-append, List·getD-append, length-replicate, getD-replicate}
+use lib.ListN.{length, length-append, List·getD-append}
 use lib.Seq.{getD-append-add}
 use native.Mathlib.Decide.{decLt}
 use Rattle.below.specs.Below.{row}
 use Rattle.below.proofs.Tests.{and-true, and-left, and-right}
-use Rattle.words.specs.Bytes.{byte, Small, number2, bytes2}
+use Rattle.words.specs.Bytes.{byte, Small, bytes2}
 use Rattle.fields.specs.Codecs.{Codec, oneByte, twoBytes, fourBytes, both, like, some}
-use Rattle.fields.proofs.Cuts.{cut, length-cut, cut-parts, cut-byte, ext, front-same, rest-same}
+use Rattle.fields.proofs.Cuts.{cut, length-cut, cut-parts, cut-byte, front-same, rest-same}
 
 -- of values that fit: it writes its size, in bytes; what it reads fits; what it wrote is read back, at any place in any
 -- surroundings; and its test says whether the bytes at a place are what it writes of what it reads

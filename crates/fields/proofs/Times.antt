@@ -1,15 +1,15 @@
 -- Values one behind the other: the law of `times`, and the loops that read and write them.
 use Prim.Native.Nat.{ℕ, zero, suc, _+_, _*_, _≤_, _<_}
 use native.Mathlib.Omega.{arith}
-use native.Mathlib.Nat.{le-antisymm, mul-zero, mul-suc}
+use native.Mathlib.Nat.{le-antisymm, mul-zero}
 use native.Mathlib.Numerals.{add-one}
 use mathlib.Core.Path.{_≡_, refl, sym, ap, subst, _∙_}
 use mathlib.Core.Bool.{Bool, true, _&&_}
-use mathlib.Core.List.{List, [], _∷_, _++_}
-use lib.ListN.{length, getD, set, length-append, length-drop}
+use mathlib.Core.List.{List, [], _++_}
+use lib.ListN.{length, getD, set, length-append}
 use Rattle.below.specs.Below.{all, row}
 use Rattle.below.proofs.Tests.{all-at, all-true, below-suc}
-use Rattle.below.proofs.Rows.{length-row, row-at, row-same, row-of-list, filled, filled-start, filled-more, filled-ends}
+use Rattle.below.proofs.Rows.{length-row, row-at, row-same, row-of-list, filled, filled-more, filled-ends}
 use Rattle.words.specs.Bytes.{Small, Spliced}
 use Rattle.words.proofs.Splices.{next, splice-none}
 use Rattle.fields.specs.Codecs.{Codec, run, times, Got}

@@ -1,12 +1,11 @@
 -- Codecs: how a value stands in bytes. A format is a value; joined formats are joined codecs.
 use Prim.Native.Nat.{ℕ, zero, suc, _+_, _*_}
-use lib.Dec.{eqb, leb}
 use lib.ListN.{getD}
 use mathlib.Core.Path.{_≡_}
-use mathlib.Core.Bool.{Bool, true, cond, _&&_}
+use mathlib.Core.Bool.{Bool, true, _&&_}
 use mathlib.Core.List.{List, [], _∷_, _++_}
 use Rattle.below.specs.Below.{all, row}
-use Rattle.words.specs.Bytes.{byte, number2, number4, bytes2, bytes4, zeros, zeroAt}
+use Rattle.words.specs.Bytes.{byte, number2, number4, bytes2, bytes4}
 
 -- its size, what it writes of a value, what it reads at a place, and whether the bytes there are those that it writes of
 -- what it reads (that this test says so is a law, proofs/Lawful.antt)

@@ -1,7 +1,7 @@
 -- A block that is good for a kind is known by that kind's number, and by no other (blocks, `one-kind`).
 use Prim.Native.Nat.{ℕ}
 use mathlib.Core.Path.{_≡_, ap, _∙_}
-use mathlib.Core.Bool.{Bool, true}
+use mathlib.Core.Bool.{true}
 use mathlib.Core.List.{List}
 use Rattle.blocks.specs.Kinds.{good}
 use Rattle.blocks.proofs.Theorems.{kind-byte}

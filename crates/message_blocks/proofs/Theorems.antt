@@ -1,10 +1,10 @@
 -- Both round trips, size, bytes and soundness, for each message.
 use Prim.Native.Nat.{ℕ, _≤_}
 use native.Mathlib.Omega.{arith}
-use lib.Dec.{leb, ltb}
+use lib.Dec.{leb}
 use lib.ListN.{length}
 use mathlib.Core.Path.{_≡_}
-use mathlib.Core.Bool.{true, not, _&&_}
+use mathlib.Core.Bool.{true, _&&_}
 use borrow.Author.Tests.{leb-true}
 use Rattle.below.proofs.Tests.{and-left, and-right}
 use Rattle.pages.specs.declared.page.Page.{Page}

@@ -1,15 +1,13 @@
 -- Both round trips, size, bytes and soundness, for the head and each row.
-use Prim.Native.Nat.{ℕ, _≤_, _<_}
+use Prim.Native.Nat.{ℕ, _≤_}
 use native.Mathlib.Omega.{arith}
-use lib.Dec.{leb, ltb, eqb}
+use lib.Dec.{ltb, eqb}
 use lib.ListN.{length, getD}
 use mathlib.Core.Path.{_≡_}
 use mathlib.Core.Bool.{Bool, true, false, cond, not, _&&_, _||_}
-use mathlib.Core.List.{List}
 use borrow.Author.Tests.{leb-true}
 use Rattle.below.proofs.Tests.{and-left, and-right, all-at}
 use Rattle.pages.specs.declared.page.Page.{Page}
-use Rattle.pages.specs.Lines.{markInRange}
 use Rattle.pages.specs.Racks.{mostRacks, racksBelow}
 use Rattle.pages.specs.Pages.{emptyOf, trivialOf, valuedOf}
 use Rattle.rounds.specs.declared.setup.Setup.{Setup}

@@ -1,12 +1,12 @@
 -- Laws of `splice`.
-use Prim.Native.Nat.{ℕ, zero, suc, _+_, _≤_, _<_}
+use Prim.Native.Nat.{ℕ, _+_, _≤_, _<_}
 use native.Mathlib.Omega.{arith}
 use native.Mathlib.Nat.{add-assoc}
 use native.Mathlib.Numerals.{add-one}
-use mathlib.Core.Path.{_≡_, refl, sym, ap, subst, _∙_}
+use mathlib.Core.Path.{_≡_, sym, ap, subst, _∙_}
 use mathlib.Core.List.{List, [], _∷_, _++_, append-nil, append-assoc}
 use lib.ListN.{length, getD, take, drop, set, length-append, length-drop, length-set, drop-of-length-le, take-append-drop, List·getD-append}
-use lib.Seq.{set-split, length-take-le, take-all, take-append-le, take-at, drop-at, drop-append-add, take-append-add, drop-drop, getD-append-add, getD-take, getD-drop}
+use lib.Seq.{set-split, length-take-le, take-at, drop-append-add, drop-drop, getD-append-add, getD-take, getD-drop}
 use Rattle.words.specs.Bytes.{splice, Spliced}
 
 -- a splice that fits keeps the length

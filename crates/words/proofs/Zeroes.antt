@@ -2,16 +2,14 @@
 use Prim.Native.Nat.{ℕ, zero, suc, _+_, _*_, _-_, _≤_, _<_}
 use native.Mathlib.Omega.{arith}
 use native.Mathlib.Nat.{add-assoc, add-zero, le-antisymm}
-use native.Mathlib.Numerals.{add-one}
 use mathlib.Core.Path.{_≡_, refl, sym, ap, subst, _∙_}
-use mathlib.Core.Bool.{Bool, true, false, _&&_}
-use mathlib.Core.List.{List, [], _∷_, _++_}
+use mathlib.Core.Bool.{true, false, _&&_}
+use mathlib.Core.List.{List, [], _∷_}
 use lib.Dec.{eqb}
-use lib.ListN.{length, replicate, length-replicate, replicate-append-replicate}
+use lib.ListN.{length, length-replicate, replicate-append-replicate}
 use borrow.Author.Tests.{eqb-true, eq-eqb}
-use Rattle.below.specs.Below.{all}
 use Rattle.below.proofs.Tests.{all-at, all-true, same-yes, and-true, and-left, and-right, not-true-false}
-use Rattle.words.specs.Bytes.{byte, number4, zeros, zeroAt, splice, Spliced}
+use Rattle.words.specs.Bytes.{byte, number4, zeros, zeroAt, Spliced}
 use Rattle.words.proofs.Splices.{next, splice-none}
 
 module _ (bytes : List ℕ) where

@@ -1,5 +1,5 @@
 -- Numbers in bytes, runs of zeros, and the one operation that all writing is.
-use Prim.Native.Nat.{ℕ, zero, suc, _+_, _*_, _/_, _%_, _<_}
+use Prim.Native.Nat.{ℕ, _+_, _*_, _/_, _%_, _<_}
 use lib.Dec.{eqb}
 use lib.ListN.{length, getD, take, drop, replicate}
 use mathlib.Core.Path.{_≡_}
