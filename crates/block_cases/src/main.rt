@@ -18,6 +18,7 @@ mod two_b_cases;
 mod two_s_cases;
 
 use blocks::BLOCK;
+use blocks::CHECKS;
 use libc::STDOUT_FILENO;
 
 pub struct Block {
@@ -30,6 +31,15 @@ fn tell(block: &[u8]) {
     io::write_all(STDOUT_FILENO, b" ");
     io::print_decimal(STDOUT_FILENO, read.kind as u64);
     io::write_all(STDOUT_FILENO, b"\n");
+}
+
+// The check words of what the block holds now.
+fn redo(block: &mut [u8]) {
+    if block.len() == BLOCK {
+        let sums = words::sums_of(block);
+        words::put_u32(block, CHECKS, sums.first);
+        words::put_u32(block, CHECKS + 4, sums.second);
+    }
 }
 
 impl Block {
@@ -58,9 +68,7 @@ impl Block {
     // The check words redone, and the answer printed.
     pub fn tell(self) {
         let mut bytes = self.bytes;
-        let sums = words::sums_of(&bytes);
-        words::put_u32(&mut bytes, 504, sums.first);
-        words::put_u32(&mut bytes, 508, sums.second);
+        redo(&mut bytes);
         tell(&bytes);
     }
 }

@@ -1,4 +1,4 @@
--- Each public contract of this crate determines its answer, and a writer's every lent byte.
+-- Each public contract of this crate determines its answer, and every lent byte.
 use mathlib.Core.Path.{_≡_, sym, _∙_}
 use contract.Lifetimes.{Lfts}
 use borrow.Fn.World.{ArgsD, ResD}

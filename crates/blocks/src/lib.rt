@@ -16,9 +16,7 @@ use rounds::Setup;
 
 pub const BLOCK: usize = 512;
 
-// Where the body begins, and where the check words stand.
-pub const BODY: usize = 10;
-
+// Where the check words stand.
 pub const CHECKS: usize = 504;
 
 pub const NO_STAMP: Stamp = Stamp {

@@ -17,7 +17,7 @@ use pages::Reading;
 use pages::Vote;
 
 // The bytes of a line.
-pub const LINE: usize = 5;
+const LINE: usize = 5;
 
 pub struct LineRead {
     pub value: Line,

@@ -20,11 +20,11 @@ use records::Heard;
 use records::Held;
 
 // The bytes of a slot.
-pub const HEARD: usize = 46;
+const HEARD: usize = 46;
 
-pub const HELD: usize = 45;
+const HELD: usize = 45;
 
-pub const BLANK: usize = 5;
+const BLANK: usize = 5;
 
 struct HeardSlot {
     value: Heard,

@@ -18,7 +18,7 @@ use records::Stamp;
 use rounds::Number;
 use rounds::Round;
 
-pub const KIND: u8 = 2;
+const KIND: u8 = 2;
 
 // Where the fields stand, and where the body ends.
 const ROUND: usize = 10;

@@ -21,7 +21,7 @@ use records::Stamp;
 use rounds::Number;
 use rounds::Round;
 
-pub const KIND: u8 = 3;
+const KIND: u8 = 3;
 
 // Where the fields stand, and where the body ends.
 const ROUND: usize = 10;

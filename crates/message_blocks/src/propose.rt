@@ -17,7 +17,7 @@ use pages::Reading;
 use records::Propose;
 use records::Stamp;
 
-pub const KIND: u8 = 1;
+const KIND: u8 = 1;
 
 // Where the fields stand, and where the body ends.
 const READING: usize = 10;

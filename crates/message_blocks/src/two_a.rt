@@ -22,7 +22,7 @@ use records::TwoA;
 use rounds::Number;
 use rounds::Round;
 
-pub const KIND: u8 = 5;
+const KIND: u8 = 5;
 
 // Where the fields stand, and where the body ends.
 const ROUND: usize = 10;

@@ -21,7 +21,7 @@ use records::TwoB;
 use rounds::Number;
 use rounds::Round;
 
-pub const KIND: u8 = 6;
+const KIND: u8 = 6;
 
 // Where the fields stand, and where the body ends.
 const ROUND: usize = 10;

@@ -21,7 +21,7 @@ use records::TwoS;
 use rounds::Number;
 use rounds::Round;
 
-pub const KIND: u8 = 4;
+const KIND: u8 = 4;
 
 // Where the fields stand, and where the body ends.
 const ROUND: usize = 10;

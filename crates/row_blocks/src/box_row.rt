@@ -21,7 +21,7 @@ use records::Stamp;
 use rounds::Number;
 use rounds::Round;
 
-pub const KIND: u8 = 18;
+const KIND: u8 = 18;
 
 // Where the fields stand, and where the body ends.
 const RND: usize = 10;

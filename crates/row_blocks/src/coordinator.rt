@@ -25,7 +25,7 @@ use records::Stamp;
 use rounds::Number;
 use rounds::Round;
 
-pub const KIND: u8 = 17;
+const KIND: u8 = 17;
 
 // Where the fields stand, and where the body ends.
 const CRND: usize = 10;

@@ -14,7 +14,7 @@ use blocks::seal;
 use records::Head;
 use records::Stamp;
 
-pub const KIND: u8 = 16;
+const KIND: u8 = 16;
 
 // Where the fields stand, and where the body ends.
 const COUNT: usize = 10;

@@ -22,7 +22,7 @@ use records::Stamp;
 use rounds::Number;
 use rounds::Round;
 
-pub const KIND: u8 = 19;
+const KIND: u8 = 19;
 
 // Where the fields stand, and where the body ends.
 const PRND: usize = 10;

@@ -25,7 +25,7 @@ use records::Held;
 use records::ReaderRow;
 use records::Stamp;
 
-pub const KIND: u8 = 20;
+const KIND: u8 = 20;
 
 // Where the fields stand, and where the body ends.
 const PAGE: usize = 10;
