@@ -4,7 +4,7 @@ use native.Mathlib.Omega.{arith}
 use borrow.Author.Tests.{not-true, not-false, lt-ltb}
 use mathlib.Core.Path.{_≡_, refl, sym, ap, subst, _∙_}
 use mathlib.Core.Bool.{Bool, true, false, cond, not, _&&_, _||_, true≢false}
-use mathlib.Core.Logic.{_⊎_, inl, inr, ⊎-elim}
+use mathlib.Core.Logic.{inl, inr, ⊎-elim}
 use Rattle.below.specs.Refusals.{granted}
 use Rattle.below.proofs.Tests.{and-true, and-left, and-right, and-false-left, not-true-false, or-true-right}
 use Rattle.pages.specs.declared.page.Page.{Page}
@@ -17,16 +17,16 @@ use Rattle.rounds.specs.declared.setup.Setup.{Setup}
 use Rattle.rounds.specs.declared.order.Order.{Order}
 use Rattle.rounds.specs.declared.order.Order.the-variants.{Below, Equal, Above, Clash}
 use Rattle.rounds.specs.Setups.{setupInRange}
-use Rattle.rounds.specs.Rounds.{roundInRange, orderOf, isBelow, isAbove, isClash}
-use Rattle.rounds.proofs.Ordered.{Lower, Compared, compared, lower-trans, lower-below, lower-above, equal-order}
+use Rattle.rounds.specs.Rounds.{roundInRange, orderOf, isBelow, isAbove}
+use Rattle.rounds.proofs.Ordered.{Lower, Compared, compared, lower-trans, lower-below, equal-order}
 use Rattle.records.specs.declared.messages.OneA.{OneA}
 use Rattle.records.specs.declared.messages.TwoS.{TwoS}
 use Rattle.records.specs.declared.messages.TwoA.{TwoA}
 use Rattle.records.specs.declared.rows.BoxRow.{BoxRow}
 use Rattle.records.specs.Rules.{pageRules, lastRules, ownRules, openRules, boxRules, oneARules, oneBRules, twoSRules, twoARules, twoBRules}
 use Rattle.records.proofs.RuleParts.{setup-racks, own-range, open-within, open-valued, vote-within, vote-valued, last-vote, last-some-rules}
-use Rattle.boxes.specs.Steps.{joinOf, mayVote, voted, telling, takePageOf, takeReadingPage, takeReadingOf}
-use Rattle.boxes.proofs.GrantedSteps.{JoinGranted, join-granted, may-up-to, may-no-clash, TakePageGranted, take-page-granted, TakeReadingGranted, take-reading-granted}
+use Rattle.boxes.specs.Steps.{joinOf, voted, telling, takePageOf, takeReadingPage, takeReadingOf}
+use Rattle.boxes.proofs.GrantedSteps.{JoinGranted, join-granted, TakePageGranted, take-page-granted, TakeReadingGranted, take-reading-granted}
 
 -- the parts of a box's row
 box-last : (s : Setup) (agent : ℕ) (row : BoxRow) → boxRules s agent row ≡ true → lastRules s (row .vrnd) (row .vval) ≡ true
@@ -46,22 +46,6 @@ below-all-above a b c h l = go (orderOf a b) h (compared a b)
     go Equal h e = subst (λ (x : Round). Lower x c) (sym e) l
     go Above h e = absurd (true≢false h)
     go Clash h e = ⊎-elim (λ p. inl (omega (arith, p, e .0))) (λ p. inr (e .0 ∙ p .0, omega (arith, p .1, e .1))) l
-
--- a good box that may vote in a round last voted below it or in it
-pub last-up-to : (s : Setup) (agent : ℕ) (row : BoxRow) (round : Round) → boxRules s agent row ≡ true → mayVote row round ≡ true →
-    Lower (row .vrnd) round ⊎ (row .vrnd ≡ round)
-last-up-to s agent row round rules may = go (orderOf (row .vrnd) round) (may-no-clash row round may) (compared (row .vrnd) round)
-  where
-    never : Lower (row .rnd) (row .vrnd) → ⊥
-    never l = true≢false (sym (ap isAbove (lower-above (row .vrnd) (row .rnd) l)) ∙ box-order s agent row rules)
-
-    go : (o : Order) → isClash o ≡ false → Compared (row .vrnd) round o → Lower (row .vrnd) round ⊎ (row .vrnd ≡ round)
-    go Below h e = inl e
-    go Equal h e = inr e
-    go Above h e =
-        absurd (never (⊎-elim (λ l. lower-trans (row .rnd) round (row .vrnd) l e) (λ q. subst (λ (x : Round). Lower x (row .vrnd)) (sym q) e)
-        (may-up-to row round may)))
-    go Clash h e = absurd (true≢false h)
 
 -- 3 join
 pub join-keeps : (s : Setup) (agent sender : ℕ) (row : BoxRow) (m : OneA) → boxRules s agent row ≡ true → oneARules s sender m ≡ true →

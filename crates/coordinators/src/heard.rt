@@ -11,20 +11,20 @@ ghost use Rattle.rounds.specs.Setups.{mostBoxes};
 ghost use Rattle.records.specs.Slots.{heardAt};
 ghost use Rattle.coordinators.specs.Steps.{isVote, clashing, higher, anyVote, anyClash, highest, heardCount};
 
-pub fn is_vote(slot: Heard) -> bool
+fn is_vote(slot: Heard) -> bool
     ensures { λ r. ⌜ r ≡ isVote slot ⌝ }
 {
     both(slot.filled, slot.vote.some)
 }
 
-pub fn clashing(mine: Heard, theirs: Heard) -> bool
+fn clashing(mine: Heard, theirs: Heard) -> bool
     ensures { λ r. ⌜ r ≡ clashing mine theirs ⌝ }
 {
     let clash = mine.vrnd.compare(theirs.vrnd).is_clash();
     both(both(is_vote(mine), is_vote(theirs)), clash)
 }
 
-pub fn higher(theirs: Heard, mine: Heard) -> bool
+fn higher(theirs: Heard, mine: Heard) -> bool
     ensures { λ r. ⌜ r ≡ higher theirs mine ⌝ }
 {
     let above = theirs.vrnd.compare(mine.vrnd).is_above();
@@ -45,7 +45,7 @@ pub fn any_vote(row: CoordinatorRow) -> bool
 }
 
 // Some heard vote's vrnd clashes with that of `mine`.
-pub fn clashes(row: CoordinatorRow, mine: Heard) -> bool
+fn clashes(row: CoordinatorRow, mine: Heard) -> bool
     ensures { λ r. ⌜ r ≡ any mostBoxes (λ b. clashing mine (heardAt row b)) ⌝ }
 {
     for k in 0..BOXES {
@@ -70,7 +70,7 @@ pub fn any_clash(row: CoordinatorRow) -> bool
 }
 
 // Some heard vote has a higher vrnd than `mine`.
-pub fn overtaken(row: CoordinatorRow, mine: Heard) -> bool
+fn overtaken(row: CoordinatorRow, mine: Heard) -> bool
     ensures { λ r. ⌜ r ≡ any mostBoxes (λ b. higher (heardAt row b) mine) ⌝ }
 {
     for k in 0..BOXES {

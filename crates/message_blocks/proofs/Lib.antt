@@ -1,1 +1,3 @@
 pub mod Propers
+pub mod Theorems
+pub mod Unique

@@ -2,8 +2,8 @@
 -- chosen page is a prefix of it. So two chosen pages are always compatible.
 use Prim.Native.Nat.{ℕ, _≤_, _<_}
 use native.Mathlib.Nat.{le-trans}
-use lib.Dec.{eqb, ltb}
-use borrow.Author.Tests.{ltb-true, eqb-true}
+use lib.Dec.{eqb}
+use borrow.Author.Tests.{eqb-true}
 use mathlib.Core.Path.{_≡_, refl, sym, ap, subst, _∙_}
 use mathlib.Core.Bool.{Bool, true, false, cond, _&&_, true≢false}
 use mathlib.Core.Logic.{⊎-elim}
@@ -22,11 +22,10 @@ use Rattle.pages.proofs.Kept.{at-one-line}
 use Rattle.rounds.specs.declared.setup.Setup.{Setup}
 use Rattle.rounds.specs.declared.round.Round.{Round}
 use Rattle.rounds.specs.Setups.{mostBoxes, majorityOf}
-use Rattle.rounds.specs.Rounds.{sameRound}
-use Rattle.records.specs.Slots.{heldAt}
 use Rattle.records.specs.declared.rows.ReaderRow.{ReaderRow}
 use Rattle.readers.specs.Learning.{heldIn, blankIn, extended, HeldMajority, ChosenPage, Above}
 use Rattle.readers.specs.Counting.{carrying, agreedLine, heldPage, agreedPage}
+use Rattle.readers.proofs.HeldAtRound.{held-at-round}
 use Rattle.readers.proofs.First.{agreed-enough, enough-carrying, agreed-is}
 
 -- an absent line is a prefix of any
@@ -57,9 +56,6 @@ module _ (s : Setup) (r : ReaderRow) (round : Round) where
     where
       none : heldIn s r round b ≡ false → lineOf k b ≡ Absent
       none e = rw e (at-empty k l)
-
-  pub held-exists : (b : ℕ) → heldIn s r round b ≡ true → b < s .boxes
-  held-exists b h = ltb-true b (s .boxes) (and-left (ltb b (s .boxes)) (heldAt r b .filled) (and-left _ (sameRound (heldAt r b .round) round) h))
 
   agreed-at : (k : ℕ) → k < mostRacks → at (agreedPage s r round) k ≡ agreedLine mostBoxes (majorityOf (s .boxes)) (lineOf k)
   unfolding agreedPage
@@ -107,7 +103,7 @@ module _ (s : Setup) (r : ReaderRow) (round : Round) where
       present : (k : ℕ) → k < mostRacks → isAbsent (at p k) ≡ false → prefixMark (at p k) (agreedLine mostBoxes (majorityOf (s .boxes)) (lineOf k)) ≡ true
       present k l q =
           prefix-same (at p k) _
-          (agreed-is mostBoxes (s .boxes) (lineOf k) (at p k) (λ b lb h. held-exists b (line-held k b l h)) q (most k l))
+          (agreed-is mostBoxes (s .boxes) (lineOf k) (at p k) (λ b lb h. held-at-round s r round b (line-held k b l h) .exists) q (most k l))
 
   pub chosen-compatible : (p q : Page) → ChosenPage s r round p → ChosenPage s r round q → compatibleOf p q ≡ true
   chosen-compatible p q a b =

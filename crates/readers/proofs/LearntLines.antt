@@ -22,8 +22,9 @@ use Rattle.records.specs.declared.rows.ReaderRow.{ReaderRow}
 use Rattle.readers.specs.declared.answer.Noted.{Noted}
 use Rattle.readers.specs.Learning.{extended, HeldMajority, JoinsChosen, withPage, Learns, tooFew, notCompatible, allNil, learnt}
 use Rattle.readers.specs.Counting.{agreedPage}
+use Rattle.readers.proofs.HeldAtRound.{held-at-round}
 use Rattle.readers.proofs.First.{count-cut}
-use Rattle.readers.proofs.ChosenLines.{held-exists, carriers, carriers-line, agreed-majority}
+use Rattle.readers.proofs.ChosenLines.{carriers, carriers-line, agreed-majority}
 use Rattle.readers.proofs.CountingLearns.{joins-is}
 
 -- a majority, all held at exactly that round, whose extended pages have this line
@@ -63,7 +64,7 @@ module _ (s : Setup) (r : ReaderRow) (round : Round) where
   -- such a majority, counted over the boxes of the hall
   pub majority-of-boxes : (among : ℕ → Bool) → HeldMajority s r round among → s .boxes ≤ mostBoxes → majorityOf (s .boxes) ≤ count (s .boxes) among
   majority-of-boxes among m l =
-      subst (λ (x : ℕ). majorityOf (s .boxes) ≤ x) (count-cut mostBoxes (s .boxes) among l (λ b lb h. held-exists s r round b (m .held b lb h))) (m .enough)
+      subst (λ (x : ℕ). majorityOf (s .boxes) ≤ x) (count-cut mostBoxes (s .boxes) among l (λ b lb h. held-at-round s r round b (m .held b lb h) .exists)) (m .enough)
 
   -- 13 learn, granted
   pub record LearnGranted (a : Noted) : Type 0 where
@@ -77,6 +78,19 @@ module _ (s : Setup) (r : ReaderRow) (round : Round) where
   learn-granted _ (notCompatible among m none) h = absurd (omega arith)
   learn-granted _ (allNil among m w j t) h = absurd (omega arith)
   learn-granted _ (learnt among m w j t) h = record { w = w; joins = j; not-trivial = t; row-is = refl }
+
+  -- so each line of the page after a granted learn is the reader's old one, or one of a majority
+  pub granted-lines : (a : Noted) → Learns s r round a → a .refusal ≡ granted → (k : ℕ) → k < mostRacks → isAbsent (at (a .row .page) k) ≡ false →
+      (at (r .page) k ≡ at (a .row .page) k) ⊎ MajorityLine s r round k (at (a .row .page) k)
+  granted-lines a learns h k l p =
+      subst (λ (w : Page). (at (r .page) k ≡ at w k) ⊎ MajorityLine s r round k (at w k)) (sym page-is)
+      (learnt-lines (facts .w) (facts .joins) k l (subst (λ (w : Page). isAbsent (at w k) ≡ false) page-is p))
+    where
+      facts : LearnGranted a
+      facts = learn-granted a learns h
+
+      page-is : a .row .page ≡ facts .w
+      page-is = ap (λ (x : ReaderRow). x .page) (facts .row-is)
 
   pub learn-refused : (a : Noted) → Learns s r round a → (a .refusal ≡ granted → ⊥) → a .row ≡ r
   learn-refused _ (tooFew none) h = refl

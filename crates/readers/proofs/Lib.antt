@@ -1,6 +1,7 @@
 pub mod Ways
 pub mod First
-pub mod Counted
+pub mod CountedWays
+pub mod HeldAtRound
 pub mod ChosenLines
 pub mod CountingLearns
 pub mod LearntLines

@@ -30,6 +30,7 @@ use Rattle.readers.specs.declared.answer.Noted.{Noted}
 use Rattle.readers.specs.Notes.{noteVoteRow, noteVoteOf, noteBlankRow, noteBlankOf}
 use Rattle.readers.specs.Learning.{heldIn, blankIn, extended, withPage, Learns}
 use Rattle.readers.proofs.GrantedNotes.{note-vote-granted, note-vote-held, note-blank-granted, note-blank-held}
+use Rattle.readers.proofs.HeldAtRound.{held-at-round, blank-at-round}
 use Rattle.readers.proofs.LearntLines.{MajorityLine, learnt-lines, LearnGranted, learn-granted}
 
 -- the parts of a reader's row
@@ -132,7 +133,7 @@ extended-within s r round b p lb h =
         and-right (ltb b (s .boxes) && roundInRange s (heldAt r b .round)) _
         (and-left _ (valuedOf (heldAt r b .page))
         (subst (λ (x : Bool). cond x (ltb b (s .boxes) && roundInRange s (heldAt r b .round) && pageRules s (heldAt r b .page) && valuedOf (heldAt r b .page)) (nothingHeld (heldAt r b)) ≡ true)
-        (and-right (ltb b (s .boxes)) _ (and-left _ (sameRound (heldAt r b .round) round) h)) (p .held-rules b lb)))
+        (held-at-round s r round b h .filled) (p .held-rules b lb)))
 
     outside : (k : ℕ) → racksBelow (s .racks) k ≡ false → over k ≡ false
     outside k o = ⊎-elim (λ e. and-false-left (ltb k mostRacks) (not-blank (ltb-true k mostRacks e))) (λ e. and-false-right (blankIn r round k) e) (decided (ltb k mostRacks))
@@ -145,7 +146,7 @@ extended-within s r round b p lb h =
             (sym
             (and-left (ltb k (s .racks)) _
             (subst (λ (x : Bool). cond x (ltb k (s .racks) && roundInRange s (blankAt r k .round)) (sameRound (blankAt r k .round) noRound) ≡ true)
-            (and-right (has (round .cf) k) _ (and-left _ (sameRound (blankAt r k .round) round) e)) (p .blank-rules k l))) ∙
+            (blank-at-round r round k e .filled) (p .blank-rules k l))) ∙
             o))
 
 -- a line as a good page has it: none of a rack that the hall has not, and a reading in range

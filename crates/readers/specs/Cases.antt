@@ -1,9 +1,8 @@
 -- The marked cases of learn (document 01, 'Both sides of each edge'): P = 2, A = 3, both racks in cf, no blanks held; a test each, over
 -- any readings V and W.
-use Prim.Native.Nat.{ℕ}
 use lib.Dec.{eqb}
 use mathlib.Core.Bool.{Bool, true, cond, _&&_}
-use mathlib.Core.List.{List, [], _∷_}
+use mathlib.Core.List.{[], _∷_}
 use Rattle.below.specs.Below.{row}
 use Rattle.below.specs.Refusals.{granted}
 use Rattle.pages.specs.declared.line.Reading.{Reading}
@@ -13,11 +12,9 @@ use Rattle.pages.specs.declared.page.Page.{Page}
 use Rattle.pages.specs.Racks.{mostRacks}
 use Rattle.pages.specs.Pages.{page, empty, prefixOf}
 use Rattle.rounds.specs.declared.setup.Setup.{Setup}
-use Rattle.rounds.specs.declared.round.Round.{Round}
 use Rattle.rounds.specs.Setups.{setupOf}
 use Rattle.rounds.specs.Rounds.{zeroOf}
 use Rattle.records.specs.declared.slots.Held.{Held}
-use Rattle.records.specs.declared.rows.ReaderRow.{ReaderRow}
 use Rattle.records.specs.Slots.{noHeld, noBlank}
 use Rattle.readers.specs.declared.answer.Noted.{Noted}
 use Rattle.readers.specs.Counting.{countedOf}

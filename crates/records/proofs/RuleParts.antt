@@ -3,7 +3,7 @@ use Prim.Native.Nat.{ℕ, _≤_, _<_}
 use lib.Dec.{ltb, eqb}
 use borrow.Author.Tests.{leb-true, lt-ltb, eq-eqb}
 use mathlib.Core.Path.{_≡_, refl, sym, subst, _∙_}
-use mathlib.Core.Bool.{Bool, true, false, cond, _&&_, _||_, true≢false}
+use mathlib.Core.Bool.{Bool, true, false, cond, _||_, true≢false}
 use mathlib.Core.Logic.{⊎-elim}
 use Rattle.below.proofs.Tests.{and-true, and-left, and-right, or-cases, or-true-left, or-true-right}
 use Rattle.pages.specs.declared.page.Page.{Page}
@@ -12,20 +12,14 @@ use Rattle.pages.specs.Racks.{racksBelow}
 use Rattle.pages.specs.Pages.{completeOf, valuedOf, emptyOf, some}
 use Rattle.rounds.specs.declared.round.Round.{Round}
 use Rattle.rounds.specs.declared.setup.Setup.{Setup}
-use Rattle.rounds.specs.Setups.{setupInRange, oneTo, mostRacks, mostBoxes}
+use Rattle.rounds.specs.Setups.{setupInRange, oneTo, mostRacks}
 use Rattle.rounds.specs.Rounds.{roundInRange, sameRound, zeroOf}
-use Rattle.rounds.proofs.Ordered.{same-round}
 use Rattle.records.specs.Rules.{pageRules, voteRules, openRules, lastRules, ownRules}
 
--- a hall's racks and boxes
+-- a hall's racks
 pub setup-racks : (s : Setup) → setupInRange s ≡ true → s .racks ≤ mostRacks
 unfolding setupInRange
 setup-racks s h = leb-true _ _ (and-right (ltb 0 (s .racks)) _ (and-left (oneTo mostRacks (s .racks)) _ h))
-
-pub setup-boxes : (s : Setup) → setupInRange s ≡ true → s .boxes ≤ mostBoxes
-unfolding setupInRange
-setup-boxes s h =
-    leb-true _ _ (and-right (ltb 0 (s .boxes)) _ (and-left (oneTo mostBoxes (s .boxes)) _ (and-right (oneTo mostRacks (s .racks)) _ h)))
 
 -- a coordinator's own round
 pub own-range : (s : Setup) (agent : ℕ) (r : Round) → ownRules s agent r ≡ true → roundInRange s r ≡ true
@@ -72,12 +66,6 @@ last-range s vrnd v h = and-left _ _ (and-left _ (v .some || sameRound vrnd (zer
 pub last-vote : (s : Setup) (vrnd : Round) (v : Vote) → lastRules s vrnd v ≡ true → voteRules s v ≡ true
 unfolding lastRules
 last-vote s vrnd v h = and-right (roundInRange s vrnd) _ (and-left _ (v .some || sameRound vrnd (zeroOf s)) h)
-
-pub last-none : (s : Setup) (vrnd : Round) (v : Vote) → lastRules s vrnd v ≡ true → v .some ≡ false → vrnd ≡ zeroOf s
-unfolding lastRules
-last-none s vrnd v h e =
-    same-round vrnd (zeroOf s)
-    (subst (λ (b : Bool). b || sameRound vrnd (zeroOf s) ≡ true) e (and-right (roundInRange s vrnd && voteRules s v) _ h))
 
 pub last-some-rules : (s : Setup) (vrnd : Round) (p : Page) → roundInRange s vrnd ≡ true → pageRules s p ≡ true → valuedOf p ≡ true →
     lastRules s vrnd (some p) ≡ true

@@ -5,7 +5,7 @@ use Rattle.pages.specs.Racks.{mostRacks}
 use Rattle.pages.proofs.Filled.{Built, built-start, built-more, built-ends}
 use Rattle.rounds.specs.Setups.{mostBoxes}
 use Rattle.readers.specs.Counting.{agreedLine, pageLine}
-use Rattle.readers.proofs.Counted.{column-agreed}
+use Rattle.readers.proofs.CountedWays.{column-agreed}
 use borrow.Author.Needs.{needs}
 use Rattle.readers.proofs.counting.agreed_page.Statement.{statement}
 use Rattle.readers.proofs.counting.agreed_page.Tie as tie

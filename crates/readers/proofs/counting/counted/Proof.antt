@@ -1,4 +1,4 @@
-use Rattle.readers.proofs.Counted.{counted-enough, counted-few}
+use Rattle.readers.proofs.CountedWays.{counted-enough, counted-few}
 use borrow.Author.Needs.{needs}
 use Rattle.readers.proofs.counting.counted.Statement.{statement}
 use Rattle.readers.proofs.counting.counted.Tie as tie
