@@ -1,16 +1,13 @@
 -- The blocks that a step names: good or not, of which kind, of which hall; and the refusals that come of them, in order.
 use Prim.Native.Nat.{ℕ}
 use lib.Dec.{leb, eqb}
-use mathlib.Core.Bool.{Bool, cond, not, _&&_, _||_}
+use mathlib.Core.Bool.{Bool, not, _&&_, _||_}
 use mathlib.Core.List.{List}
 use Rattle.below.specs.Refusals.{unless, granted}
 use Rattle.rounds.specs.Setups.{sameSetup}
 use Rattle.records.specs.declared.stamp.Stamp.{Stamp}
-use Rattle.words.specs.Bytes.{byte}
 use Rattle.blocks.specs.Frame.{stampAs}
-use Rattle.blocks.specs.Kinds.{good}
-use Rattle.message_blocks.specs.Messages.{propose, oneA, oneB, twoS, twoA, twoB}
-use Rattle.row_blocks.specs.Rows.{head, coordinator, box, rack, reader}
+use Rattle.kinds.specs.Known.{known}
 use Rattle.acts.specs.declared.step.Step.{Step}
 use Rattle.acts.specs.Acts.{Act, actOf}
 
@@ -21,10 +18,8 @@ abbrev pub otherHall : ℕ
 otherHall = 3
 
 -- a block that passes check and rules, of whatever kind
-unfoldable pub isGood : List ℕ → Bool
-isGood block =
-    good propose block || good oneA block || good oneB block || good twoS block || good twoA block || good twoB block || good head block ||
-    good coordinator block || good box block || good rack block || good reader block
+abbrev pub isGood : List ℕ → Bool
+isGood block = known block
 
 -- what a block says of itself
 abbrev pub stampOf : List ℕ → Stamp
