@@ -5,6 +5,7 @@ use lib.Dec.{eqb}
 use mathlib.Core.Bool.{Bool, true, false, cond, _&&_}
 use mathlib.Core.List.{List, []}
 use Rattle.below.specs.Refusals.{granted, wrongMessage}
+use Rattle.rounds.specs.declared.round.Round.{Round}
 use Rattle.rounds.specs.Rounds.{roundOf}
 use Rattle.records.specs.declared.stamp.Stamp.{Stamp}
 use Rattle.words.specs.Bytes.{byte}
@@ -54,15 +55,15 @@ onBoth r m row message act = cond (isA r row && isA m message) (act (bodyOf r ro
 
 -- The thirteen, by code. `stamp` is the row's own: its agent does the step and sends.
 -- 1 offer
-unfoldable pub offerAct : Stamp → Step → List ℕ → Act
-offerAct stamp x row =
-    cond (isA rack row) (record { refusal = granted; row = row; sends = true; sent = encode propose stamp (offerOf (record { 0 = x .reading })) })
+unfoldable pub offerAct : Stamp → ℕ → List ℕ → Act
+offerAct stamp reading row =
+    cond (isA rack row) (record { refusal = granted; row = row; sends = true; sent = encode propose stamp (offerOf (record { 0 = reading })) })
     (refused wrongMessage)
 
 -- 2 start
-unfoldable pub startAct : Stamp → Step → List ℕ → Act
-startAct stamp x row =
-    onRow coordinator row (λ r. let a = startOf (stamp .agent) r (x .n) (x .cf) in sending coordinator oneA stamp (a .refusal) (a .row) (a .sent))
+unfoldable pub startAct : Stamp → ℕ → ℕ → List ℕ → Act
+startAct stamp n cf row =
+    onRow coordinator row (λ r. let a = startOf (stamp .agent) r n cf in sending coordinator oneA stamp (a .refusal) (a .row) (a .sent))
 
 -- 3 join
 unfoldable pub joinAct : Stamp → List ℕ → List ℕ → Act
@@ -116,14 +117,14 @@ noteBlankAct stamp row message =
     onBoth reader twoA row message (λ r m. let a = noteBlankOf r (agentOf message) m in silent reader stamp (a .refusal) (a .row))
 
 -- 13 learn: the property over majorities (readers/specs/Learning.antt) has one answer, which counting gives
-unfoldable pub learnAct : Stamp → Step → List ℕ → Act
-learnAct stamp x row =
-    onRow reader row (λ r. let a = countedOf (stamp .setup) r (roundOf (x .n) (x .c) (x .cf)) in silent reader stamp (a .refusal) (a .row))
+unfoldable pub learnAct : Stamp → Round → List ℕ → Act
+learnAct stamp round row =
+    onRow reader row (λ r. let a = countedOf (stamp .setup) r round in silent reader stamp (a .refusal) (a .row))
 
 unfoldable pub actOf : Stamp → Step → List ℕ → List ℕ → Act
 actOf stamp x row message =
-    cond (eqb (x .code) 1) (offerAct stamp x row)
-    (cond (eqb (x .code) 2) (startAct stamp x row)
+    cond (eqb (x .code) 1) (offerAct stamp (x .reading) row)
+    (cond (eqb (x .code) 2) (startAct stamp (x .n) (x .cf) row)
     (cond (eqb (x .code) 3) (joinAct stamp row message)
     (cond (eqb (x .code) 4) (hearAct stamp row message)
     (cond (eqb (x .code) 5) (openAct stamp row)
@@ -133,4 +134,4 @@ actOf stamp x row message =
     (cond (eqb (x .code) 9) (takePageAct stamp row message)
     (cond (eqb (x .code) 10) (takeReadingAct stamp row message)
     (cond (eqb (x .code) 11) (noteVoteAct stamp row message)
-    (cond (eqb (x .code) 12) (noteBlankAct stamp row message) (learnAct stamp x row))))))))))))
+    (cond (eqb (x .code) 12) (noteBlankAct stamp row message) (learnAct stamp (roundOf (x .n) (x .c) (x .cf)) row))))))))))))

@@ -1,2 +1,3 @@
 pub mod Acts
 pub mod Named
+pub mod Answers

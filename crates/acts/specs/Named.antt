@@ -37,6 +37,10 @@ names code = not (leb code 2 || (eqb code 5 || eqb code 13))
 abbrev pub ownAct : Step → List ℕ → List ℕ → Act
 ownAct x row message = actOf (stampOf row) x row message
 
+-- the row's block is of this hall and this agent
+abbrev pub ownRow : Stamp → Stamp → Bool
+ownRow hall stamp = sameHall hall stamp && eqb (stamp .agent) (hall .agent)
+
 -- 2 for the row, then what the caller found out of range, 2 for the message, 3 (the hall is the caller's, the row's agent its
 -- place), then 5 to 9
 unfoldable pub namedRefusal : Stamp → ℕ → Step → List ℕ → List ℕ → ℕ
@@ -44,5 +48,17 @@ namedRefusal hall late x row message =
     unless (isGood row) badBlock
     (unless (eqb late granted) late
     (unless (not (names (x .code)) || isGood message) badBlock
-    (unless (sameHall hall (stampOf row) && eqb (stampOf row .agent) (hall .agent)) otherHall
+    (unless (ownRow hall (stampOf row)) otherHall
     (unless (not (names (x .code)) || sameHall hall (stampOf message)) otherHall (ownAct x row message .refusal)))))
+
+-- the same for a step that is known to name a row and a message, or a row alone; `own` is what the act then says
+unfoldable pub bothRefusal : Stamp → ℕ → List ℕ → List ℕ → ℕ → ℕ
+bothRefusal hall late row message own =
+    unless (isGood row) badBlock
+    (unless (eqb late granted) late
+    (unless (isGood message) badBlock
+    (unless (ownRow hall (stampOf row)) otherHall (unless (sameHall hall (stampOf message)) otherHall own))))
+
+unfoldable pub rowRefusal : Stamp → ℕ → List ℕ → ℕ → ℕ
+rowRefusal hall late row own =
+    unless (isGood row) badBlock (unless (eqb late granted) late (unless (ownRow hall (stampOf row)) otherHall own))

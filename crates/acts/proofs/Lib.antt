@@ -1,0 +1,2 @@
+pub mod Familiar
+pub mod Ways
