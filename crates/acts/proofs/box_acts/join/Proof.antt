@@ -1,71 +1,34 @@
+use Rattle.row_blocks.specs.Rows.{box}
+use Rattle.message_blocks.specs.Messages.{oneA, oneB}
+use Rattle.boxes.specs.declared.answer.Joined.{Joined}
+use Rattle.boxes.specs.Steps.{joinOf}
+use Rattle.acts.specs.Acts.{joinAct}
+use Rattle.acts.proofs.Familiar.{box-familiar, one-a-familiar}
+use Rattle.acts.proofs.Answered.{both-sends-not, both-sends-no, both-sends-yes}
 use borrow.Author.Needs.{needs}
 use Rattle.acts.proofs.box_acts.join.Statement.{statement}
 use Rattle.acts.proofs.box_acts.join.Tie as tie
-use Rattle.acts.proofs.box_acts.join.Reads as reads
-use Rattle.acts.proofs.box_acts.join.Lts as lts
-use Rattle.acts.proofs.named.named_both.Reads as named-both-reads
-use Rattle.boxes.proofs.join.Reads as join-reads
-use Rattle.message_blocks.proofs.read_one_a.Reads as read-one-a-reads
-use Rattle.message_blocks.proofs.put_one_b.Reads as put-one-b-reads
-use Rattle.row_blocks.proofs.put_box.Reads as put-box-reads
-use Rattle.row_blocks.proofs.read_box.Reads as read-box-reads
 
--- src/box_acts.rt:20:9
-read-box-requires : tie.Need-read-box-requires
-read-box-requires c κs = search needs
-
--- src/box_acts.rt:21:9
-read-one-a-requires : tie.Need-read-one-a-requires
-read-one-a-requires c κs = search needs
-
--- src/box_acts.rt:22:9
 named-both-requires : tie.Need-named-both-requires
-named-both-requires c κs = ?
+named-both-requires c κs = ((c .before .before .before .before .before .before .before .before .pre .0), (c .before .before .before .before .before .before .before .before .pre .1 .0))
 
--- src/box_acts.rt:24:9
 returns : tie.Need-returns
-returns c = ?
+unfolding joinAct
+returns c = both-sends-not box oneA oneB box-familiar one-a-familiar Joined (λ a. a .refusal) (λ a. a .row) (λ a. a .sent) (λ s t r m. joinOf r m) (c .before .before .before .before .before .before .before .before .before .before .args .hall) (c .before .before .before .before .before .before .before .before .before .before .args .late) (c .before .before .before .before .before .before .before .before .before .before .pre .0) (c .before .before .before .before .before .before .before .before .before .before .pre .1 .0) (c .before .before .before .before .before .read-box .ensures) (c .before .before .before .before .read-one-a .ensures) (c .before .named-both .ensures) (c .if1 .taken)
 
--- src/box_acts.rt:26:9
-join-requires : tie.Need-join-requires
-join-requires c κs = search needs
-
--- src/box_acts.rt:28:9
 returns-2 : tie.Need-returns-2
-returns-2 c = ?
+unfolding joinAct
+returns-2 c = both-sends-no box oneA oneB box-familiar one-a-familiar Joined (λ a. a .refusal) (λ a. a .row) (λ a. a .sent) (λ s t r m. joinOf r m) (c .before .before .before .before .before .before .before .before .before .before .before .before .before .args .hall) (c .before .before .before .before .before .before .before .before .before .before .before .before .before .args .late) (c .before .before .before .before .before .before .before .before .before .before .before .before .before .pre .0) (c .before .before .before .before .before .before .before .before .before .before .before .before .before .pre .1 .0) (c .before .before .before .before .before .before .before .before .read-box .ensures) (c .before .before .before .before .before .before .before .read-one-a .ensures) (c .before .before .before .before .named-both .ensures) (c .before .before .before .if1 .left) (c .before .before .join .ensures) (c .if2 .taken)
 
--- src/box_acts.rt:31:5
 put-box-requires : tie.Need-put-box-requires
-put-box-requires c κs = ?
+put-box-requires c κs = (c .before .before .before .before .before .before .before .before .before .before .before .before .before .before .before .pre .1 .1 .0)
 
--- src/box_acts.rt:32:5
 put-one-b-requires : tie.Need-put-one-b-requires
-put-one-b-requires c κs = ?
+put-one-b-requires c κs = (c .before .before .before .before .before .before .before .before .before .before .before .before .before .before .before .before .before .before .before .pre .1 .1 .1)
 
--- src/box_acts.rt:16:1
-same-length : tie.Need-same-length
-same-length c = search needs
-
--- src/box_acts.rt:16:1
-same-length-2 : tie.Need-same-length-2
-same-length-2 c = search needs
-
--- src/box_acts.rt:16:1
 returns-3 : tie.Need-returns-3
-returns-3 c = ?
+unfolding joinAct
+returns-3 c = both-sends-yes box oneA oneB box-familiar one-a-familiar Joined (λ a. a .refusal) (λ a. a .row) (λ a. a .sent) (λ s t r m. joinOf r m) (c .before .before .before .before .before .before .before .before .before .before .before .before .before .before .before .before .before .before .before .before .before .before .args .hall) (c .before .before .before .before .before .before .before .before .before .before .before .before .before .before .before .before .before .before .before .before .before .before .args .late) (c .before .before .before .before .before .before .before .before .before .before .before .before .before .before .before .before .before .before .before .before .before .before .pre .0) (c .before .before .before .before .before .before .before .before .before .before .before .before .before .before .before .before .before .before .before .before .before .before .pre .1 .0) (c .before .before .before .before .before .before .before .before .before .before .before .before .before .before .before .before .before .read-box .ensures) (c .before .before .before .before .before .before .before .before .before .before .before .before .before .before .before .before .read-one-a .ensures) (c .before .before .before .before .before .before .before .before .before .before .before .before .before .named-both .ensures) (c .before .before .before .before .before .before .before .before .before .before .before .before .if1 .left) (c .before .before .before .before .before .before .before .before .before .before .before .join .ensures) (c .before .before .before .before .before .before .before .before .before .if2 .left) (c .before .before .before .before .before .before .put-box .ensures) (c .before .before .put-one-b .ensures)
 
 pub join-spec : {M : Type 1} → statement M
-join-spec =
-    tie.close
-    (tie.spec
-    read-box-requires
-    read-one-a-requires
-    named-both-requires
-    returns
-    join-requires
-    returns-2
-    put-box-requires
-    put-one-b-requires
-    same-length
-    same-length-2
-    returns-3)
+join-spec = tie.close (tie.spec (λ c κs. search needs) (λ c κs. search needs) named-both-requires returns (λ c κs. search needs) returns-2 put-box-requires put-one-b-requires (λ c. search needs) (λ c. search needs) returns-3)
