@@ -12,6 +12,7 @@ use Rattle.records.specs.declared.stamp.Stamp.{Stamp}
 use Rattle.blocks.specs.Frame.{blockSize}
 use Rattle.blocks.specs.Kinds.{Kind, encode, decode, good}
 use Rattle.blocks.specs.Answers.{answer, Reads}
+use Rattle.blocks.proofs.Judged.{Proper, encode-decode}
 use Rattle.kinds.specs.Known.{known, Told}
 use Rattle.acts.specs.Acts.{Act, refused, isA, bodyOf, onRow, onBoth, sending, silent}
 use Rattle.acts.specs.Named.{badBlock, otherHall, isGood, stampOf, sameHall, ownRow, bothRefusal, rowRefusal}
@@ -168,6 +169,10 @@ module _ {R : Type 0} (kr : Kind R) (fr : Familiar kr) (own : Stamp → R → Ac
 
   row-refused : (no ≡ granted → ⊥) → rowRefusal hall late row (rowAct .refusal) ≡ no
   row-refused h = row-number ∙ ap (λ (b : Bool). cond b (own (stampOf row) (bodyOf kr row) .refusal) no) (ne-eqb no granted h)
+
+  -- what was read of the row is written as the row's very bytes
+  pub row-again : (P : R → Type 0) → Proper kr P → no ≡ granted → encode kr rs r ≡ row
+  row-again P proper z = (λ i. encode kr (read-stamped kr (row-good z) p i) (read-body kr (row-good z) p i)) ∙ sym (encode-decode kr P proper row (row-good z))
 
   pub row-unnamed : {a s : List ℕ} → (no ≡ granted → ⊥) → Acts (rowRefusal hall late row (rowAct .refusal)) rowAct no false a s a s
   row-unnamed h = stays (row-refused h) h

@@ -55,14 +55,14 @@ onBoth r m row message act = cond (isA r row && isA m message) (act (bodyOf r ro
 
 -- The thirteen, by code. `stamp` is the row's own: its agent does the step and sends.
 -- 1 offer
-unfoldable pub offerAct : Stamp → ℕ → List ℕ → Act
-offerAct stamp reading row =
+unfoldable pub offerAct : ℕ → Stamp → List ℕ → Act
+offerAct reading stamp row =
     cond (isA rack row) (record { refusal = granted; row = row; sends = true; sent = encode propose stamp (offerOf (record { 0 = reading })) })
     (refused wrongMessage)
 
 -- 2 start
-unfoldable pub startAct : Stamp → ℕ → ℕ → List ℕ → Act
-startAct stamp n cf row =
+unfoldable pub startAct : ℕ → ℕ → Stamp → List ℕ → Act
+startAct n cf stamp row =
     onRow coordinator row (λ r. let a = startOf (stamp .agent) r n cf in sending coordinator oneA stamp (a .refusal) (a .row) (a .sent))
 
 -- 3 join
@@ -117,14 +117,14 @@ noteBlankAct stamp row message =
     onBoth reader twoA row message (λ r m. let a = noteBlankOf r (agentOf message) m in silent reader stamp (a .refusal) (a .row))
 
 -- 13 learn: the property over majorities (readers/specs/Learning.antt) has one answer, which counting gives
-unfoldable pub learnAct : Stamp → Round → List ℕ → Act
-learnAct stamp round row =
+unfoldable pub learnAct : Round → Stamp → List ℕ → Act
+learnAct round stamp row =
     onRow reader row (λ r. let a = countedOf (stamp .setup) r round in silent reader stamp (a .refusal) (a .row))
 
 unfoldable pub actOf : Stamp → Step → List ℕ → List ℕ → Act
 actOf stamp x row message =
-    cond (eqb (x .code) 1) (offerAct stamp (x .reading) row)
-    (cond (eqb (x .code) 2) (startAct stamp (x .n) (x .cf) row)
+    cond (eqb (x .code) 1) (offerAct (x .reading) stamp row)
+    (cond (eqb (x .code) 2) (startAct (x .n) (x .cf) stamp row)
     (cond (eqb (x .code) 3) (joinAct stamp row message)
     (cond (eqb (x .code) 4) (hearAct stamp row message)
     (cond (eqb (x .code) 5) (openAct stamp row)
@@ -134,4 +134,4 @@ actOf stamp x row message =
     (cond (eqb (x .code) 9) (takePageAct stamp row message)
     (cond (eqb (x .code) 10) (takeReadingAct stamp row message)
     (cond (eqb (x .code) 11) (noteVoteAct stamp row message)
-    (cond (eqb (x .code) 12) (noteBlankAct stamp row message) (learnAct stamp (roundOf (x .n) (x .c) (x .cf)) row))))))))))))
+    (cond (eqb (x .code) 12) (noteBlankAct stamp row message) (learnAct (roundOf (x .n) (x .c) (x .cf)) stamp row))))))))))))

@@ -7,9 +7,24 @@
 // bytes, and hand on what they found out of range as `late`, which stands between the two refusals 2.
 mod acted;
 mod box_acts;
+mod coordinator_acts;
 mod named;
+mod rack_acts;
+mod reader_acts;
 mod step;
 
 pub use acted::Acted;
 pub use box_acts::join;
+pub use box_acts::take_page;
+pub use box_acts::take_reading;
+pub use coordinator_acts::hear;
+pub use coordinator_acts::open;
+pub use coordinator_acts::start;
+pub use rack_acts::blank;
+pub use rack_acts::fast;
+pub use rack_acts::offer;
+pub use rack_acts::prepare;
+pub use reader_acts::learn;
+pub use reader_acts::note_blank;
+pub use reader_acts::note_vote;
 pub use step::Step;

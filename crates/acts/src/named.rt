@@ -38,7 +38,10 @@ fn good_block(block: &[u8], right: bool) -> bool
 fn same_hall(hall: Stamp, stamp: Stamp) -> bool
     ensures { λ r. ⌜ r ≡ sameHall hall stamp ⌝ }
 {
-    both(hall.setup.same(stamp.setup), hall.instance.0 == stamp.instance.0)
+    both(
+        hall.setup.same(stamp.setup),
+        hall.instance.0 == stamp.instance.0,
+    )
 }
 
 fn own_row(hall: Stamp, stamp: Stamp) -> bool
