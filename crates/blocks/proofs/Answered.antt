@@ -97,14 +97,11 @@ module _ {A : Type 0} (k : Kind A) (P : A → Type 0) (proper : Proper k P) (sta
       keep : {a b : Bool} → a ≡ true → b ≡ false → old ≡ cond (a && b) (encode k stamp body) old
       keep p q = rw (p, q)
 
-  pub write-good : {old one two after : List ℕ} {r : Bool} → length old ≡ blockSize → r ≡ kept k stamp body → r ≡ true → Spliced 0 (stampAs (k .number) .put stamp) old one →
-      Spliced bodyAt (k .body .put body) one two → Sealed (bodyAt + k .body .size) two after → Writes k stamp body old after 0
-  unfolding encode sealed
-  write-good {old} {one} {two} {after} l h t p q s =
+  pub write-good : {old after : List ℕ} {r : Bool} → length old ≡ blockSize → r ≡ kept k stamp body → r ≡ true → after ≡ encode k stamp body → Writes k stamp body old after 0
+  write-good {old} {after} l h t e =
       record {
         refused = pick (eq-eqb (length old) blockSize l) (sym h ∙ t);
-        written = (s .is ∙ ap (λ (m : List ℕ). splice wordsEnd (checks m) m) middle ∙ seal-words (content k .put (stamp, body)) old (length-content k P proper (stamp, body)) l) ∙
-            put (eq-eqb (length old) blockSize l) (sym h ∙ t);
+        written = e ∙ put (eq-eqb (length old) blockSize l) (sym h ∙ t);
       }
     where
       pick : {a b : Bool} → a ≡ true → b ≡ true → _≡_ {A = ℕ} 0 (cond a (cond b 0 2) 1)
@@ -113,6 +110,13 @@ module _ {A : Type 0} (k : Kind A) (P : A → Type 0) (proper : Proper k P) (sta
       put : {a b : Bool} → a ≡ true → b ≡ true → encode k stamp body ≡ cond (a && b) (encode k stamp body) old
       put u v = rw (u, v)
 
+  -- what is put is the record's block
+  pub put-good : {old one two after : List ℕ} → length old ≡ blockSize → Spliced 0 (stampAs (k .number) .put stamp) old one → Spliced bodyAt (k .body .put body) one two →
+      Sealed (bodyAt + k .body .size) two after → after ≡ encode k stamp body
+  unfolding encode sealed
+  put-good {old} {one} {two} {after} l p q s =
+      s .is ∙ ap (λ (m : List ℕ). splice wordsEnd (checks m) m) middle ∙ seal-words (content k .put (stamp, body)) old (length-content k P proper (stamp, body)) l
+    where
       -- stamp, body and zeros are the words
       front : Spliced 0 (stampAs (k .number) .put stamp ++ k .body .put body) old two
       front = next 0 (stampAs (k .number) .put stamp) (k .body .put body) old one two bodyAt (omega (arith, l)) p refl q

@@ -1,7 +1,9 @@
 // 2 1A: a round.
 ghost use mathlib.Core.Path.{_≡_};
 ghost use mathlib.Core.List.{[]};
-ghost use Rattle.blocks.specs.Kinds.{decode};
+ghost use lib.ListN.{length};
+ghost use Rattle.blocks.specs.Frame.{blockSize};
+ghost use Rattle.blocks.specs.Kinds.{encode, decode};
 ghost use Rattle.blocks.specs.Answers.{Reads, Writes};
 ghost use Rattle.message_blocks.specs.Messages.{oneA};
 use below::both;
@@ -73,6 +75,18 @@ pub fn read_one_a(block: &[u8]) -> OneARead
     }
 }
 
+// The writer where length and rules are known to be right: a granted step's row and message keep the
+// rules, and need no test.
+pub fn put_one_a(block: &mut [u8], stamp: Stamp, body: OneA)
+    requires { ⌜ length (now block) ≡ blockSize ⌝ }
+    ensures { λ _. ⌜ now (block .exit) ≡ encode oneA stamp body ⌝ }
+{
+    let round = body.round;
+    put_stamp(block, KIND, stamp);
+    put_round(block, ROUND, round);
+    seal(block, END);
+}
+
 pub fn write_one_a(block: &mut [u8], stamp: Stamp, body: OneA) -> u8
     ensures { λ r. ⌜ Writes oneA stamp body (now (block .entry)) (now (block .exit)) r ⌝ }
 {
@@ -86,9 +100,6 @@ pub fn write_one_a(block: &mut [u8], stamp: Stamp, body: OneA) -> u8
     ) {
         return 2;
     }
-    let round = body.round;
-    put_stamp(block, KIND, stamp);
-    put_round(block, ROUND, round);
-    seal(block, END);
+    put_one_a(block, stamp, body);
     0
 }

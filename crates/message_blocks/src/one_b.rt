@@ -1,7 +1,9 @@
 // 3 1B: a round, vrnd and the last vote.
 ghost use mathlib.Core.Path.{_≡_};
 ghost use mathlib.Core.List.{[]};
-ghost use Rattle.blocks.specs.Kinds.{decode};
+ghost use lib.ListN.{length};
+ghost use Rattle.blocks.specs.Frame.{blockSize};
+ghost use Rattle.blocks.specs.Kinds.{encode, decode};
 ghost use Rattle.blocks.specs.Answers.{Reads, Writes};
 ghost use Rattle.message_blocks.specs.Messages.{oneB};
 use below::both;
@@ -86,6 +88,22 @@ pub fn read_one_b(block: &[u8]) -> OneBRead
     }
 }
 
+// The writer where length and rules are known to be right: a granted step's row and message keep the
+// rules, and need no test.
+pub fn put_one_b(block: &mut [u8], stamp: Stamp, body: OneB)
+    requires { ⌜ length (now block) ≡ blockSize ⌝ }
+    ensures { λ _. ⌜ now (block .exit) ≡ encode oneB stamp body ⌝ }
+{
+    let round = body.round;
+    let vrnd = body.vrnd;
+    let vote = body.vote;
+    put_stamp(block, KIND, stamp);
+    put_round(block, ROUND, round);
+    put_round(block, VRND, vrnd);
+    put_vote(block, VOTE, vote);
+    seal(block, END);
+}
+
 pub fn write_one_b(block: &mut [u8], stamp: Stamp, body: OneB) -> u8
     ensures { λ r. ⌜ Writes oneB stamp body (now (block .entry)) (now (block .exit)) r ⌝ }
 {
@@ -96,13 +114,6 @@ pub fn write_one_b(block: &mut [u8], stamp: Stamp, body: OneB) -> u8
     if !both(stamp.rules(setup.boxes), body.rules(setup, stamp.agent)) {
         return 2;
     }
-    let round = body.round;
-    let vrnd = body.vrnd;
-    let vote = body.vote;
-    put_stamp(block, KIND, stamp);
-    put_round(block, ROUND, round);
-    put_round(block, VRND, vrnd);
-    put_vote(block, VOTE, vote);
-    seal(block, END);
+    put_one_b(block, stamp, body);
     0
 }

@@ -1,7 +1,9 @@
 // 1 PROPOSE: a reading.
 ghost use mathlib.Core.Path.{_≡_};
 ghost use mathlib.Core.List.{[]};
-ghost use Rattle.blocks.specs.Kinds.{decode};
+ghost use lib.ListN.{length};
+ghost use Rattle.blocks.specs.Frame.{blockSize};
+ghost use Rattle.blocks.specs.Kinds.{encode, decode};
 ghost use Rattle.blocks.specs.Answers.{Reads, Writes};
 ghost use Rattle.message_blocks.specs.Messages.{propose};
 use below::both;
@@ -65,6 +67,18 @@ pub fn read_propose(block: &[u8]) -> ProposeRead
     }
 }
 
+// The writer where length and rules are known to be right: a granted step's row and message keep the
+// rules, and need no test.
+pub fn put_propose(block: &mut [u8], stamp: Stamp, body: Propose)
+    requires { ⌜ length (now block) ≡ blockSize ⌝ }
+    ensures { λ _. ⌜ now (block .exit) ≡ encode propose stamp body ⌝ }
+{
+    let reading = body.reading;
+    put_stamp(block, KIND, stamp);
+    put_reading(block, READING, reading);
+    seal(block, END);
+}
+
 pub fn write_propose(block: &mut [u8], stamp: Stamp, body: Propose) -> u8
     ensures { λ r. ⌜ Writes propose stamp body (now (block .entry)) (now (block .exit)) r ⌝ }
 {
@@ -75,9 +89,6 @@ pub fn write_propose(block: &mut [u8], stamp: Stamp, body: Propose) -> u8
     if !both(stamp.rules(setup.racks), body.rules(setup, stamp.agent)) {
         return 2;
     }
-    let reading = body.reading;
-    put_stamp(block, KIND, stamp);
-    put_reading(block, READING, reading);
-    seal(block, END);
+    put_propose(block, stamp, body);
     0
 }

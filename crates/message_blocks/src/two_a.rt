@@ -1,7 +1,9 @@
 // 5 2A: a round and a line.
 ghost use mathlib.Core.Path.{_≡_};
 ghost use mathlib.Core.List.{[]};
-ghost use Rattle.blocks.specs.Kinds.{decode};
+ghost use lib.ListN.{length};
+ghost use Rattle.blocks.specs.Frame.{blockSize};
+ghost use Rattle.blocks.specs.Kinds.{encode, decode};
 ghost use Rattle.blocks.specs.Answers.{Reads, Writes};
 ghost use Rattle.message_blocks.specs.Messages.{twoA};
 use below::both;
@@ -79,6 +81,20 @@ pub fn read_two_a(block: &[u8]) -> TwoARead
     }
 }
 
+// The writer where length and rules are known to be right: a granted step's row and message keep the
+// rules, and need no test.
+pub fn put_two_a(block: &mut [u8], stamp: Stamp, body: TwoA)
+    requires { ⌜ length (now block) ≡ blockSize ⌝ }
+    ensures { λ _. ⌜ now (block .exit) ≡ encode twoA stamp body ⌝ }
+{
+    let round = body.round;
+    let line = body.line;
+    put_stamp(block, KIND, stamp);
+    put_round(block, ROUND, round);
+    put_line(block, LINE, line);
+    seal(block, END);
+}
+
 pub fn write_two_a(block: &mut [u8], stamp: Stamp, body: TwoA) -> u8
     ensures { λ r. ⌜ Writes twoA stamp body (now (block .entry)) (now (block .exit)) r ⌝ }
 {
@@ -89,11 +105,6 @@ pub fn write_two_a(block: &mut [u8], stamp: Stamp, body: TwoA) -> u8
     if !both(stamp.rules(setup.racks), body.rules(setup, stamp.agent)) {
         return 2;
     }
-    let round = body.round;
-    let line = body.line;
-    put_stamp(block, KIND, stamp);
-    put_round(block, ROUND, round);
-    put_line(block, LINE, line);
-    seal(block, END);
+    put_two_a(block, stamp, body);
     0
 }

@@ -1,7 +1,9 @@
 // 6 2B: a round and a page.
 ghost use mathlib.Core.Path.{_≡_};
 ghost use mathlib.Core.List.{[]};
-ghost use Rattle.blocks.specs.Kinds.{decode};
+ghost use lib.ListN.{length};
+ghost use Rattle.blocks.specs.Frame.{blockSize};
+ghost use Rattle.blocks.specs.Kinds.{encode, decode};
 ghost use Rattle.blocks.specs.Answers.{Reads, Writes};
 ghost use Rattle.message_blocks.specs.Messages.{twoB};
 use below::both;
@@ -78,6 +80,20 @@ pub fn read_two_b(block: &[u8]) -> TwoBRead
     }
 }
 
+// The writer where length and rules are known to be right: a granted step's row and message keep the
+// rules, and need no test.
+pub fn put_two_b(block: &mut [u8], stamp: Stamp, body: TwoB)
+    requires { ⌜ length (now block) ≡ blockSize ⌝ }
+    ensures { λ _. ⌜ now (block .exit) ≡ encode twoB stamp body ⌝ }
+{
+    let round = body.round;
+    let page = body.page;
+    put_stamp(block, KIND, stamp);
+    put_round(block, ROUND, round);
+    put_page(block, PAGE, page);
+    seal(block, END);
+}
+
 pub fn write_two_b(block: &mut [u8], stamp: Stamp, body: TwoB) -> u8
     ensures { λ r. ⌜ Writes twoB stamp body (now (block .entry)) (now (block .exit)) r ⌝ }
 {
@@ -88,11 +104,6 @@ pub fn write_two_b(block: &mut [u8], stamp: Stamp, body: TwoB) -> u8
     if !both(stamp.rules(setup.boxes), body.rules(setup, stamp.agent)) {
         return 2;
     }
-    let round = body.round;
-    let page = body.page;
-    put_stamp(block, KIND, stamp);
-    put_round(block, ROUND, round);
-    put_page(block, PAGE, page);
-    seal(block, END);
+    put_two_b(block, stamp, body);
     0
 }

@@ -1,7 +1,9 @@
 // 4 2S: a round and a page.
 ghost use mathlib.Core.Path.{_≡_};
 ghost use mathlib.Core.List.{[]};
-ghost use Rattle.blocks.specs.Kinds.{decode};
+ghost use lib.ListN.{length};
+ghost use Rattle.blocks.specs.Frame.{blockSize};
+ghost use Rattle.blocks.specs.Kinds.{encode, decode};
 ghost use Rattle.blocks.specs.Answers.{Reads, Writes};
 ghost use Rattle.message_blocks.specs.Messages.{twoS};
 use below::both;
@@ -81,6 +83,20 @@ pub fn read_two_s(block: &[u8]) -> TwoSRead
     }
 }
 
+// The writer where length and rules are known to be right: a granted step's row and message keep the
+// rules, and need no test.
+pub fn put_two_s(block: &mut [u8], stamp: Stamp, body: TwoS)
+    requires { ⌜ length (now block) ≡ blockSize ⌝ }
+    ensures { λ _. ⌜ now (block .exit) ≡ encode twoS stamp body ⌝ }
+{
+    let round = body.round;
+    let page = body.page;
+    put_stamp(block, KIND, stamp);
+    put_round(block, ROUND, round);
+    put_page(block, PAGE, page);
+    seal(block, END);
+}
+
 pub fn write_two_s(block: &mut [u8], stamp: Stamp, body: TwoS) -> u8
     ensures { λ r. ⌜ Writes twoS stamp body (now (block .entry)) (now (block .exit)) r ⌝ }
 {
@@ -94,11 +110,6 @@ pub fn write_two_s(block: &mut [u8], stamp: Stamp, body: TwoS) -> u8
     ) {
         return 2;
     }
-    let round = body.round;
-    let page = body.page;
-    put_stamp(block, KIND, stamp);
-    put_round(block, ROUND, round);
-    put_page(block, PAGE, page);
-    seal(block, END);
+    put_two_s(block, stamp, body);
     0
 }

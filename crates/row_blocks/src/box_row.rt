@@ -1,7 +1,9 @@
 // 18 box: rnd, vrnd, vval.
 ghost use mathlib.Core.Path.{_≡_};
 ghost use mathlib.Core.List.{[]};
-ghost use Rattle.blocks.specs.Kinds.{decode};
+ghost use lib.ListN.{length};
+ghost use Rattle.blocks.specs.Frame.{blockSize};
+ghost use Rattle.blocks.specs.Kinds.{encode, decode};
 ghost use Rattle.blocks.specs.Answers.{Reads, Writes};
 ghost use Rattle.row_blocks.specs.Rows.{box};
 use below::both;
@@ -86,6 +88,22 @@ pub fn read_box(block: &[u8]) -> BoxRowRead
     }
 }
 
+// The writer where length and rules are known to be right: a granted step's row and message keep the
+// rules, and need no test.
+pub fn put_box(block: &mut [u8], stamp: Stamp, body: BoxRow)
+    requires { ⌜ length (now block) ≡ blockSize ⌝ }
+    ensures { λ _. ⌜ now (block .exit) ≡ encode box stamp body ⌝ }
+{
+    let rnd = body.rnd;
+    let vrnd = body.vrnd;
+    let vval = body.vval;
+    put_stamp(block, KIND, stamp);
+    put_round(block, RND, rnd);
+    put_round(block, VRND, vrnd);
+    put_vote(block, VVAL, vval);
+    seal(block, END);
+}
+
 pub fn write_box(block: &mut [u8], stamp: Stamp, body: BoxRow) -> u8
     ensures { λ r. ⌜ Writes box stamp body (now (block .entry)) (now (block .exit)) r ⌝ }
 {
@@ -96,13 +114,6 @@ pub fn write_box(block: &mut [u8], stamp: Stamp, body: BoxRow) -> u8
     if !both(stamp.rules(setup.boxes), body.rules(setup, stamp.agent)) {
         return 2;
     }
-    let rnd = body.rnd;
-    let vrnd = body.vrnd;
-    let vval = body.vval;
-    put_stamp(block, KIND, stamp);
-    put_round(block, RND, rnd);
-    put_round(block, VRND, vrnd);
-    put_vote(block, VVAL, vval);
-    seal(block, END);
+    put_box(block, stamp, body);
     0
 }

@@ -1,7 +1,9 @@
 // 17 coordinator: crnd, cval and what was heard.
 ghost use mathlib.Core.Path.{_≡_};
 ghost use mathlib.Core.List.{[]};
-ghost use Rattle.blocks.specs.Kinds.{decode};
+ghost use lib.ListN.{length};
+ghost use Rattle.blocks.specs.Frame.{blockSize};
+ghost use Rattle.blocks.specs.Kinds.{encode, decode};
 ghost use Rattle.blocks.specs.Answers.{Reads, Writes};
 ghost use Rattle.row_blocks.specs.Rows.{coordinator};
 use below::both;
@@ -94,6 +96,22 @@ pub fn read_coordinator(block: &[u8]) -> CoordinatorRowRead
     }
 }
 
+// The writer where length and rules are known to be right: a granted step's row and message keep the
+// rules, and need no test.
+pub fn put_coordinator(block: &mut [u8], stamp: Stamp, body: CoordinatorRow)
+    requires { ⌜ length (now block) ≡ blockSize ⌝ }
+    ensures { λ _. ⌜ now (block .exit) ≡ encode coordinator stamp body ⌝ }
+{
+    let crnd = body.crnd;
+    let cval = body.cval;
+    let heard = body.heard;
+    put_stamp(block, KIND, stamp);
+    put_round(block, CRND, crnd);
+    put_vote(block, CVAL, cval);
+    put_heard(block, HEARD, heard);
+    seal(block, END);
+}
+
 pub fn write_coordinator(block: &mut [u8], stamp: Stamp, body: CoordinatorRow) -> u8
     ensures { λ r. ⌜ Writes coordinator stamp body (now (block .entry)) (now (block .exit)) r ⌝ }
 {
@@ -107,13 +125,6 @@ pub fn write_coordinator(block: &mut [u8], stamp: Stamp, body: CoordinatorRow) -
     ) {
         return 2;
     }
-    let crnd = body.crnd;
-    let cval = body.cval;
-    let heard = body.heard;
-    put_stamp(block, KIND, stamp);
-    put_round(block, CRND, crnd);
-    put_vote(block, CVAL, cval);
-    put_heard(block, HEARD, heard);
-    seal(block, END);
+    put_coordinator(block, stamp, body);
     0
 }

@@ -1,7 +1,9 @@
 // 16 head: how many messages the post holds. There is one, agent 0.
 ghost use mathlib.Core.Path.{_≡_};
 ghost use mathlib.Core.List.{[]};
-ghost use Rattle.blocks.specs.Kinds.{decode};
+ghost use lib.ListN.{length};
+ghost use Rattle.blocks.specs.Frame.{blockSize};
+ghost use Rattle.blocks.specs.Kinds.{encode, decode};
 ghost use Rattle.blocks.specs.Answers.{Reads, Writes};
 ghost use Rattle.row_blocks.specs.Rows.{head};
 use below::both;
@@ -60,6 +62,17 @@ pub fn read_head(block: &[u8]) -> HeadRead
     }
 }
 
+// The writer where length and rules are known to be right: a granted step's row and message keep the
+// rules, and need no test.
+pub fn put_head(block: &mut [u8], stamp: Stamp, body: Head)
+    requires { ⌜ length (now block) ≡ blockSize ⌝ }
+    ensures { λ _. ⌜ now (block .exit) ≡ encode head stamp body ⌝ }
+{
+    put_stamp(block, KIND, stamp);
+    words::put_u16(block, COUNT, body.count);
+    seal(block, END);
+}
+
 pub fn write_head(block: &mut [u8], stamp: Stamp, body: Head) -> u8
     ensures { λ r. ⌜ Writes head stamp body (now (block .entry)) (now (block .exit)) r ⌝ }
 {
@@ -70,8 +83,6 @@ pub fn write_head(block: &mut [u8], stamp: Stamp, body: Head) -> u8
     if !both(stamp.rules(1), body.rules(setup, stamp.agent)) {
         return 2;
     }
-    put_stamp(block, KIND, stamp);
-    words::put_u16(block, COUNT, body.count);
-    seal(block, END);
+    put_head(block, stamp, body);
     0
 }

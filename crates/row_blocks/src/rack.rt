@@ -1,7 +1,9 @@
 // 19 rack: prnd and pval.
 ghost use mathlib.Core.Path.{_≡_};
 ghost use mathlib.Core.List.{[]};
-ghost use Rattle.blocks.specs.Kinds.{decode};
+ghost use lib.ListN.{length};
+ghost use Rattle.blocks.specs.Frame.{blockSize};
+ghost use Rattle.blocks.specs.Kinds.{encode, decode};
 ghost use Rattle.blocks.specs.Answers.{Reads, Writes};
 ghost use Rattle.row_blocks.specs.Rows.{rack};
 use below::both;
@@ -79,6 +81,20 @@ pub fn read_rack(block: &[u8]) -> RackRowRead
     }
 }
 
+// The writer where length and rules are known to be right: a granted step's row and message keep the
+// rules, and need no test.
+pub fn put_rack(block: &mut [u8], stamp: Stamp, body: RackRow)
+    requires { ⌜ length (now block) ≡ blockSize ⌝ }
+    ensures { λ _. ⌜ now (block .exit) ≡ encode rack stamp body ⌝ }
+{
+    let prnd = body.prnd;
+    let pval = body.pval;
+    put_stamp(block, KIND, stamp);
+    put_round(block, PRND, prnd);
+    put_line(block, PVAL, pval);
+    seal(block, END);
+}
+
 pub fn write_rack(block: &mut [u8], stamp: Stamp, body: RackRow) -> u8
     ensures { λ r. ⌜ Writes rack stamp body (now (block .entry)) (now (block .exit)) r ⌝ }
 {
@@ -89,11 +105,6 @@ pub fn write_rack(block: &mut [u8], stamp: Stamp, body: RackRow) -> u8
     if !both(stamp.rules(setup.racks), body.rules(setup, stamp.agent)) {
         return 2;
     }
-    let prnd = body.prnd;
-    let pval = body.pval;
-    put_stamp(block, KIND, stamp);
-    put_round(block, PRND, prnd);
-    put_line(block, PVAL, pval);
-    seal(block, END);
+    put_rack(block, stamp, body);
     0
 }

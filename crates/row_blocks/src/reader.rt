@@ -1,7 +1,9 @@
 // 20 reader: its page, what is held and the blanks.
 ghost use mathlib.Core.Path.{_≡_};
 ghost use mathlib.Core.List.{[]};
-ghost use Rattle.blocks.specs.Kinds.{decode};
+ghost use lib.ListN.{length};
+ghost use Rattle.blocks.specs.Frame.{blockSize};
+ghost use Rattle.blocks.specs.Kinds.{encode, decode};
 ghost use Rattle.blocks.specs.Answers.{Reads, Writes};
 ghost use Rattle.row_blocks.specs.Rows.{reader};
 use below::both;
@@ -89,6 +91,22 @@ pub fn read_reader(block: &[u8]) -> ReaderRowRead
     }
 }
 
+// The writer where length and rules are known to be right: a granted step's row and message keep the
+// rules, and need no test.
+pub fn put_reader(block: &mut [u8], stamp: Stamp, body: ReaderRow)
+    requires { ⌜ length (now block) ≡ blockSize ⌝ }
+    ensures { λ _. ⌜ now (block .exit) ≡ encode reader stamp body ⌝ }
+{
+    let page = body.page;
+    let held = body.held;
+    let blanks = body.blanks;
+    put_stamp(block, KIND, stamp);
+    put_page(block, PAGE, page);
+    put_held(block, HELD, held);
+    put_blanks(block, BLANKS, blanks);
+    seal(block, END);
+}
+
 pub fn write_reader(block: &mut [u8], stamp: Stamp, body: ReaderRow) -> u8
     ensures { λ r. ⌜ Writes reader stamp body (now (block .entry)) (now (block .exit)) r ⌝ }
 {
@@ -99,13 +117,6 @@ pub fn write_reader(block: &mut [u8], stamp: Stamp, body: ReaderRow) -> u8
     if !both(stamp.rules(setup.readers), body.rules(setup, stamp.agent)) {
         return 2;
     }
-    let page = body.page;
-    let held = body.held;
-    let blanks = body.blanks;
-    put_stamp(block, KIND, stamp);
-    put_page(block, PAGE, page);
-    put_held(block, HELD, held);
-    put_blanks(block, BLANKS, blanks);
-    seal(block, END);
+    put_reader(block, stamp, body);
     0
 }

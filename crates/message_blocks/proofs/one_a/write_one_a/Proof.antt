@@ -10,7 +10,7 @@ returns-2 : tie.Need-returns-2
 returns-2 c = write-bad oneA OneAFits one-a-proper _ _ _ (c .before .before .before .before .before .if1 .left) (keeping oneA OneAFits one-a-proper _ _ (c .before .before .before .rules .ensures) (c .before .before .rules2 .ensures) (c .before .both .ensures)) (not-true _ (c .if2 .taken))
 
 returns-3 : tie.Need-returns-3
-returns-3 c = write-good oneA OneAFits one-a-proper _ _ (c .before .before .before .before .before .before .before .before .before .before .before .before .before .before .before .before .before .before .if1 .left) (keeping oneA OneAFits one-a-proper _ _ (c .before .before .before .before .before .before .before .before .before .before .before .before .before .before .before .before .rules .ensures) (c .before .before .before .before .before .before .before .before .before .before .before .before .before .before .before .rules2 .ensures) (c .before .before .before .before .before .before .before .before .before .before .before .before .before .before .both .ensures)) (not-false _ (c .before .before .before .before .before .before .before .before .before .before .before .before .before .if2 .left)) (c .before .before .before .before .before .before .before .before .before .before .put-stamp .ensures) (c .before .before .before .before .before .before .put-round .ensures) (c .before .before .seal .ensures)
+returns-3 c = write-good oneA OneAFits one-a-proper _ _ (c .before .before .before .before .before .before .before .before .before .if1 .left) (keeping oneA OneAFits one-a-proper _ _ (c .before .before .before .before .before .before .before .rules .ensures) (c .before .before .before .before .before .before .rules2 .ensures) (c .before .before .before .before .before .both .ensures)) (not-false _ (c .before .before .before .before .if2 .left)) (c .before .before .put-one-a .ensures)
 
 pub write-one-a-spec : {M : Type 1} → statement M
-write-one-a-spec = tie.close (tie.spec (λ c. write-short oneA OneAFits one-a-proper _ _ _ (c .if1 .taken)) (λ c κs. search needs) (λ c κs. search needs) (λ c κs. search needs) returns-2 (λ c κs. search needs) (λ c κs. search needs) (λ c κs. search needs) (λ c. search needs) returns-3)
+write-one-a-spec = tie.close (tie.spec (λ c. write-short oneA OneAFits one-a-proper _ _ _ (c .if1 .taken)) (λ c κs. search needs) (λ c κs. search needs) (λ c κs. search needs) returns-2 (λ c κs. search needs) (λ c. search needs) returns-3)

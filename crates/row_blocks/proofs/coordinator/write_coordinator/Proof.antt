@@ -1,11 +1,7 @@
-use mathlib.Core.Path.{refl}
 use borrow.Author.Tests.{not-true, not-false}
-use Rattle.words.proofs.Splices.{next}
 use Rattle.row_blocks.specs.Rows.{coordinator}
 use Rattle.blocks.proofs.Answered.{write-short, keeping, write-bad, write-good}
 use Rattle.row_blocks.proofs.Propers.{CoordinatorFits, coordinator-proper}
-use Rattle.fields.proofs.Fitted.{vote-lawful}
-use Rattle.row_blocks.proofs.Propers.{behind}
 use borrow.Author.Needs.{needs}
 use Rattle.row_blocks.proofs.coordinator.write_coordinator.Statement.{statement}
 use Rattle.row_blocks.proofs.coordinator.write_coordinator.Tie as tie
@@ -17,7 +13,7 @@ returns-2 : tie.Need-returns-2
 returns-2 c = write-bad coordinator CoordinatorFits coordinator-proper _ _ _ (c .before .before .before .before .before .if1 .left) (keeping coordinator CoordinatorFits coordinator-proper _ _ (c .before .before .before .rules .ensures) (c .before .before .rules2 .ensures) (c .before .both .ensures)) (not-true _ (c .if2 .taken))
 
 returns-3 : tie.Need-returns-3
-returns-3 c = write-good coordinator CoordinatorFits coordinator-proper _ _ (c .before .before .before .before .before .before .before .before .before .before .before .before .before .before .before .before .before .before .before .before .before .before .before .before .before .before .before .before .if1 .left) (keeping coordinator CoordinatorFits coordinator-proper _ _ (c .before .before .before .before .before .before .before .before .before .before .before .before .before .before .before .before .before .before .before .before .before .before .before .before .before .before .rules .ensures) (c .before .before .before .before .before .before .before .before .before .before .before .before .before .before .before .before .before .before .before .before .before .before .before .before .before .rules2 .ensures) (c .before .before .before .before .before .before .before .before .before .before .before .before .before .before .before .before .before .before .before .before .before .before .before .before .both .ensures)) (not-false _ (c .before .before .before .before .before .before .before .before .before .before .before .before .before .before .before .before .before .before .before .before .before .before .before .if2 .left)) (c .before .before .before .before .before .before .before .before .before .before .before .before .before .before .before .before .before .before .put-stamp .ensures) (next _ _ _ _ _ _ _ (search needs) (c .before .before .before .before .before .before .before .before .before .before .before .before .before .before .put-round .ensures) refl (behind 41 (vote-lawful .long (c .before .before .before .before .before .before .before .before .before .before .before .before .before .before .before .before .before .before .before .before .before .before .before .before .before .before .before .before .before .before .args .body .cval)) (search needs) (c .before .before .before .before .before .before .before .before .before .before .put-vote .ensures) refl (c .before .before .before .before .before .before .put-heard .ensures))) (c .before .before .seal .ensures)
+returns-3 c = write-good coordinator CoordinatorFits coordinator-proper _ _ (c .before .before .before .before .before .before .before .before .before .if1 .left) (keeping coordinator CoordinatorFits coordinator-proper _ _ (c .before .before .before .before .before .before .before .rules .ensures) (c .before .before .before .before .before .before .rules2 .ensures) (c .before .before .before .before .before .both .ensures)) (not-false _ (c .before .before .before .before .if2 .left)) (c .before .before .put-coordinator .ensures)
 
 pub write-coordinator-spec : {M : Type 1} → statement M
-write-coordinator-spec = tie.close (tie.spec returns (λ c κs. search needs) (λ c κs. search needs) (λ c κs. search needs) returns-2 (λ c κs. search needs) (λ c κs. search needs) (λ c κs. search needs) (λ c κs. search needs) (λ c κs. search needs) (λ c. search needs) returns-3)
+write-coordinator-spec = tie.close (tie.spec returns (λ c κs. search needs) (λ c κs. search needs) (λ c κs. search needs) returns-2 (λ c κs. search needs) (λ c. search needs) returns-3)

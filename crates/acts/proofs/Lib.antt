@@ -1,0 +1,3 @@
+pub mod Familiar
+pub mod Ways
+pub mod Answered

@@ -1,0 +1,64 @@
+-- The blocks that a step names: good or not, of which kind, of which hall; and the refusals that come of them, in order.
+use Prim.Native.Nat.{ℕ}
+use lib.Dec.{leb, eqb}
+use mathlib.Core.Bool.{Bool, not, _&&_, _||_}
+use mathlib.Core.List.{List}
+use Rattle.below.specs.Refusals.{unless, granted}
+use Rattle.rounds.specs.Setups.{sameSetup}
+use Rattle.records.specs.declared.stamp.Stamp.{Stamp}
+use Rattle.blocks.specs.Frame.{stampAs}
+use Rattle.kinds.specs.Known.{known}
+use Rattle.acts.specs.declared.step.Step.{Step}
+use Rattle.acts.specs.Acts.{Act, actOf}
+
+abbrev pub badBlock : ℕ
+badBlock = 2
+
+abbrev pub otherHall : ℕ
+otherHall = 3
+
+-- a block that passes check and rules, of whatever kind
+abbrev pub isGood : List ℕ → Bool
+isGood block = known block
+
+-- what a block says of itself
+abbrev pub stampOf : List ℕ → Stamp
+stampOf block = stampAs 0 .get block 0
+
+-- blocks differ in setup or instance
+abbrev pub sameHall : Stamp → Stamp → Bool
+sameHall a b = sameSetup (a .setup) (b .setup) && eqb (a .instance .0) (b .instance .0)
+
+-- offer, start, open and learn name no message
+abbrev pub names : ℕ → Bool
+names code = not (leb code 2 || (eqb code 5 || eqb code 13))
+
+-- the act of a row's own agent
+abbrev pub ownAct : Step → List ℕ → List ℕ → Act
+ownAct x row message = actOf (stampOf row) x row message
+
+-- the row's block is of this hall and this agent
+abbrev pub ownRow : Stamp → Stamp → Bool
+ownRow hall stamp = sameHall hall stamp && eqb (stamp .agent) (hall .agent)
+
+-- 2 for the row, then what the caller found out of range, 2 for the message, 3 (the hall is the caller's, the row's agent its
+-- place), then 5 to 9
+unfoldable pub namedRefusal : Stamp → ℕ → Step → List ℕ → List ℕ → ℕ
+namedRefusal hall late x row message =
+    unless (isGood row) badBlock
+    (unless (eqb late granted) late
+    (unless (not (names (x .code)) || isGood message) badBlock
+    (unless (ownRow hall (stampOf row)) otherHall
+    (unless (not (names (x .code)) || sameHall hall (stampOf message)) otherHall (ownAct x row message .refusal)))))
+
+-- the same for a step that is known to name a row and a message, or a row alone; `own` is what the act then says
+unfoldable pub bothRefusal : Stamp → ℕ → List ℕ → List ℕ → ℕ → ℕ
+bothRefusal hall late row message own =
+    unless (isGood row) badBlock
+    (unless (eqb late granted) late
+    (unless (isGood message) badBlock
+    (unless (ownRow hall (stampOf row)) otherHall (unless (sameHall hall (stampOf message)) otherHall own))))
+
+unfoldable pub rowRefusal : Stamp → ℕ → List ℕ → ℕ → ℕ
+rowRefusal hall late row own =
+    unless (isGood row) badBlock (unless (eqb late granted) late (unless (ownRow hall (stampOf row)) otherHall own))

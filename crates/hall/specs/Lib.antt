@@ -1,0 +1,2 @@
+pub mod Halls
+pub mod Steps

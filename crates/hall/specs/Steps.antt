@@ -1,0 +1,129 @@
+-- The hall's step and the C step: the order of refusals, and every lent byte afterwards.
+use Prim.Native.Nat.{ℕ, _+_, _*_}
+use lib.Dec.{leb, ltb, eqb}
+use lib.ListN.{length}
+use mathlib.Core.Bool.{Bool, true, false, cond, not, _&&_, _||_}
+use mathlib.Core.List.{List}
+use Rattle.below.specs.Refusals.{unless, granted}
+use Rattle.pages.specs.Lines.{readingInRange}
+use Rattle.rounds.specs.declared.setup.Setup.{Setup}
+use Rattle.rounds.specs.Setups.{oneTo, someRacks, sameSetup}
+use Rattle.rounds.specs.Rounds.{roundOf, roundInRange, largestNumber}
+use Rattle.records.specs.declared.stamp.Stamp.{Stamp}
+use Rattle.words.specs.Bytes.{zeros, splice}
+use Rattle.blocks.specs.Frame.{blockSize, stampAs}
+use Rattle.blocks.specs.Kinds.{encode, decode, good}
+use Rattle.row_blocks.specs.Rows.{head}
+use Rattle.acts.specs.declared.step.Step.{Step}
+use Rattle.acts.specs.Acts.{Act}
+use Rattle.acts.specs.Named.{badBlock, stampOf, names, ownAct, namedRefusal}
+use Rattle.hall.specs.Halls.{wrongLength, outOfRange, hallSize, coordinatorsAt, boxesAt, racksAt, readersAt, messagesAt, blockAt}
+
+-- which sort of agent does a step: where its rows begin, and how many there are
+abbrev pub byRack : ℕ → Bool
+byRack code = eqb code 1 || (leb 6 code && leb code 8)
+
+abbrev pub byCoordinator : ℕ → Bool
+byCoordinator code = eqb code 2 || (leb 4 code && leb code 5)
+
+abbrev pub byBox : ℕ → Bool
+byBox code = eqb code 3 || (leb 9 code && leb code 10)
+
+unfoldable pub rowsAt : ℕ → ℕ
+rowsAt code = cond (byRack code) racksAt (cond (byCoordinator code) coordinatorsAt (cond (byBox code) boxesAt readersAt))
+
+unfoldable pub agentsFor : Setup → ℕ → ℕ
+agentsFor s code = cond (byRack code) (s .racks) (cond (byCoordinator code) (s .coordinators) (cond (byBox code) (s .boxes) (s .readers)))
+
+abbrev pub isCode : ℕ → Bool
+isCode code = oneTo 13 code
+
+abbrev pub noSuchStep : ℕ
+noSuchStep = 4
+
+-- 4: code not 1 to 13, no such agent, message number not below the count
+unfoldable pub stepExists : Setup → ℕ → Step → Bool
+stepExists s count x = isCode (x .code) && ltb (x .agent) (agentsFor s (x .code)) && (not (names (x .code)) || ltb (x .message) count)
+
+-- 11: reading (offer), n and cf (start, whose c is the agent), round (learn) out of range
+unfoldable pub numbersInRange : Setup → Step → Bool
+numbersInRange s x =
+    cond (eqb (x .code) 1) (readingInRange (record { 0 = x .reading }))
+    (cond (eqb (x .code) 2) (oneTo largestNumber (x .n) && someRacks (s .racks) (x .cf))
+    (cond (eqb (x .code) 13) (roundInRange s (roundOf (x .n) (x .c) (x .cf))) true))
+
+-- the blocks that a step names in a hall
+abbrev pub headOf : List ℕ → Stamp
+headOf hall = decode head (blockAt hall 0) .0
+
+abbrev pub countOf : List ℕ → ℕ
+countOf hall = decode head (blockAt hall 0) .1 .count
+
+abbrev pub rowPlace : Step → ℕ
+rowPlace x = rowsAt (x .code) + x .agent
+
+abbrev pub rowOf : List ℕ → Step → List ℕ
+rowOf hall x = blockAt hall (rowPlace x)
+
+abbrev pub messageOf : List ℕ → Step → List ℕ
+messageOf hall x = blockAt hall (messagesAt + x .message)
+
+unfoldable pub hallAct : List ℕ → Step → Act
+hallAct hall x = ownAct x (rowOf hall x) (messageOf hall x)
+
+-- the hall's stamp, with the agent that the step names
+abbrev pub hallFor : List ℕ → Step → Stamp
+hallFor hall x = record { instance = headOf hall .instance; setup = headOf hall .setup; agent = x .agent }
+
+-- 10: post full (96)
+abbrev pub postFull : ℕ
+postFull = 10
+
+abbrev pub mostMessages : ℕ
+mostMessages = 96
+
+abbrev pub fits : Act → ℕ → Bool
+fits act count = not (act .sends) || ltb count mostMessages
+
+-- Order in a hall step: 1, head block 2, 4, 11, row 2, message 2, 3, then 5 to 10 by number
+unfoldable pub hallRefusal : List ℕ → Step → ℕ
+hallRefusal hall x =
+    unless (eqb (length hall) hallSize) wrongLength
+    (unless (good head (blockAt hall 0)) badBlock
+    (unless (stepExists (headOf hall .setup) (countOf hall) x) noSuchStep
+    (unless (numbersInRange (headOf hall .setup) x) outOfRange
+    (unless (eqb (namedRefusal (hallFor hall x) granted x (rowOf hall x) (messageOf hall x)) granted)
+    (namedRefusal (hallFor hall x) granted x (rowOf hall x) (messageOf hall x))
+    (unless (fits (hallAct hall x) (countOf hall)) postFull granted)))))
+
+-- a granted step changes only its row, at most one new message block and the head
+abbrev pub putBlock : ℕ → List ℕ → List ℕ → List ℕ
+putBlock place block hall = splice (blockSize * place) block hall
+
+unfoldable pub posted : List ℕ → List ℕ → List ℕ
+posted sent hall =
+    putBlock 0 (encode head (headOf hall) (record { count = countOf hall + 1 })) (putBlock (messagesAt + countOf hall) sent hall)
+
+unfoldable pub granting : List ℕ → Step → List ℕ
+granting hall x = putBlock (rowPlace x) (hallAct hall x .row) (cond (hallAct hall x .sends) (posted (hallAct hall x .sent) hall) hall)
+
+unfoldable pub hallAfter : List ℕ → Step → List ℕ
+hallAfter hall x = cond (eqb (hallRefusal hall x) granted) (granting hall x) hall
+
+-- The C step, on three separate lent buffers. Order there: 1, 4 (code only), row 2, 11 (step 2: n and cf only), message 2 (only for
+-- a step that names a message), 3 (setup and instance), 5 to 9
+abbrev pub rangeRefusal : Setup → Step → ℕ
+rangeRefusal s x = unless (numbersInRange s x) outOfRange granted
+
+unfoldable pub boxRefusal : List ℕ → List ℕ → List ℕ → Step → ℕ
+boxRefusal row message sent x =
+    unless (eqb (length row) blockSize && eqb (length message) blockSize && eqb (length sent) blockSize) wrongLength
+    (unless (isCode (x .code)) noSuchStep (namedRefusal (stampOf row) (rangeRefusal (stampOf row .setup) x) x row message))
+
+-- the row rewritten; the message sent, all zero where none is sent
+unfoldable pub boxRowAfter : List ℕ → List ℕ → List ℕ → Step → List ℕ
+boxRowAfter row message sent x = cond (eqb (boxRefusal row message sent x) granted) (ownAct x row message .row) row
+
+unfoldable pub boxSentAfter : List ℕ → List ℕ → List ℕ → Step → List ℕ
+boxSentAfter row message sent x =
+    cond (eqb (boxRefusal row message sent x) granted) (cond (ownAct x row message .sends) (ownAct x row message .sent) (zeros blockSize)) sent
