@@ -6,7 +6,7 @@ ghost use lib.ListN.{length};
 ghost use Rattle.words.specs.Bytes.{zeros};
 ghost use Rattle.blocks.specs.Frame.{blockSize};
 ghost use Rattle.row_blocks.specs.Rows.{head, coordinator, box, rack, reader};
-ghost use Rattle.hall.specs.Halls.{freshCoordinator, freshBox, freshRack, freshReader, rowOrZero};
+ghost use Rattle.hall.specs.Halls.{freshCoordinator, freshBox, freshRack, freshReader, rowOrZero, freshBlock};
 ghost use Rattle.pages.specs.Pages.{empty, none, some};
 use blocks::BLOCK;
 use pages::Line;
@@ -159,4 +159,32 @@ fn fresh_coordinator(block: &mut [u8], instance: Instance, setup: Setup, agent: 
     } else {
         zero_block(block);
     }
+}
+
+// The block at a place of a fresh hall; unused blocks are zero.
+pub fn fresh_block(block: &mut [u8], instance: Instance, setup: Setup, place: usize)
+    requires { ⌜ length (now block) ≡ blockSize ⌝ }
+    ensures { λ _. ⌜ now (block .exit) ≡ freshBlock (instance .0) setup place ⌝ }
+{
+    if place < COORDINATORS_AT {
+        fresh_head(block, instance, setup);
+        return;
+    }
+    if place < BOXES_AT {
+        fresh_coordinator(block, instance, setup, (place - COORDINATORS_AT) as u8);
+        return;
+    }
+    if place < RACKS_AT {
+        fresh_box(block, instance, setup, (place - BOXES_AT) as u8);
+        return;
+    }
+    if place < READERS_AT {
+        fresh_rack(block, instance, setup, (place - RACKS_AT) as u8);
+        return;
+    }
+    if place < MESSAGES_AT {
+        fresh_reader(block, instance, setup, (place - READERS_AT) as u8);
+        return;
+    }
+    zero_block(block);
 }
