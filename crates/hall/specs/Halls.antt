@@ -2,6 +2,7 @@
 use Prim.Native.Nat.{ℕ, _+_, _*_, _-_}
 use lib.Dec.{leb, ltb, eqb}
 use lib.ListN.{length, take, drop}
+use mathlib.Core.Path.{_≡_}
 use mathlib.Core.Bool.{Bool, cond, _&&_}
 use mathlib.Core.List.{List}
 use Rattle.below.specs.Below.{row}
@@ -95,3 +96,8 @@ setupRefusal hall instance s =
 
 unfoldable pub setupAfter : List ℕ → ℕ → Setup → List ℕ
 setupAfter hall instance s = cond (eqb (setupRefusal hall instance s) granted) (freshHall instance s) hall
+
+-- what setup promises of its answer and of every lent byte
+pub record Sets (hall after : List ℕ) (instance : ℕ) (s : Setup) (answer : ℕ) : Type 0 where
+  pub answered : answer ≡ setupRefusal hall instance s
+  pub left : after ≡ setupAfter hall instance s

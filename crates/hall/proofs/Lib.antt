@@ -1,0 +1,3 @@
+pub mod FreshBlocks
+pub mod SettingUp
+pub mod Unique
