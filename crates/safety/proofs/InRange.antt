@@ -26,6 +26,12 @@ use Rattle.records.specs.Slots.{heardAt}
 use Rattle.records.specs.Rules.{oneARules, twoSRules, twoARules, openedRules, nothingHeard, filledHeard, heardRules, allHeard, coordinatorRules, boxRules, rackRules}
 use Rattle.records.proofs.RuleParts.{own-range, last-range}
 
+-- a hall's boxes
+pub setup-boxes : (s : Setup) → setupInRange s ≡ true → s .boxes ≤ mostBoxes
+unfolding setupInRange
+setup-boxes s h =
+    leb-true _ _ (and-right (ltb 0 (s .boxes)) _ (and-left (oneTo mostBoxes (s .boxes)) _ (and-right (oneTo mostRacks (s .racks)) _ h)))
+
 -- what a setup's range says of racks and coordinators
 pub setup-some-rack : (s : Setup) → setupInRange s ≡ true → 0 < s .racks
 unfolding setupInRange

@@ -22,7 +22,6 @@ use Rattle.rounds.proofs.Ordered.{key, Lower}
 use Rattle.records.specs.declared.rows.CoordinatorRow.{CoordinatorRow}
 use Rattle.records.specs.Slots.{heardAt}
 use Rattle.records.specs.Rules.{coordinatorRules}
-use Rattle.records.proofs.RuleParts.{setup-boxes}
 use Rattle.coordinators.specs.Steps.{isVote, anyVote, heardCount, joinedVotes, openPage}
 use Rattle.coordinators.proofs.HighestVote.{highest-vote, highest-top, top-highest, highest-exists}
 use Rattle.coordinators.proofs.OpenPage.{votesHighest, votedPage, open-some-vote, OpenLine, of-vote, all-absent, open-line, open-past, open-joins}
@@ -34,7 +33,7 @@ use Rattle.history.proofs.VotesAgree.{votes-compatible}
 use Rattle.history.proofs.VotesAreValued.{vote-within}
 use Rattle.safety.proofs.TrueRows.{CoordinatorTrue}
 use Rattle.safety.proofs.Moved.{SoundHall}
-use Rattle.safety.proofs.InRange.{lower-number, not-lower-number, heard-facts}
+use Rattle.safety.proofs.InRange.{setup-boxes, lower-number, not-lower-number, heard-facts}
 
 -- what a coordinator keeps, as the history reads it
 abbrev pub hearing : CoordinatorRow → Hearing

@@ -24,7 +24,6 @@ use Rattle.records.specs.declared.messages.TwoA.{TwoA}
 use Rattle.records.specs.declared.messages.TwoB.{TwoB}
 use Rattle.records.specs.declared.rows.ReaderRow.{ReaderRow}
 use Rattle.records.specs.Slots.{heldAt, blankAt}
-use Rattle.records.proofs.RuleParts.{setup-boxes}
 use Rattle.readers.specs.declared.answer.Noted.{Noted}
 use Rattle.readers.specs.Notes.{noteVoteRow, noteVoteOf, noteBlankRow, noteBlankOf}
 use Rattle.readers.specs.Learning.{heldIn, blankIn, extended, JoinsChosen, Learns, tooFew, notCompatible, allNil, learnt}
@@ -37,6 +36,7 @@ use Rattle.safety.proofs.TrueMessages.{twoA, twoB, Says}
 use Rattle.safety.proofs.TrueRows.{Shown, ReaderTrue}
 use Rattle.safety.proofs.Moved.{reader, SoundHall, Stepped, Silent, still}
 use Rattle.safety.proofs.Slots.{slot-cases}
+use Rattle.safety.proofs.InRange.{setup-boxes}
 
 module _ (s : Setup) {H : History} (r : ReaderRow) (t : ReaderTrue s H r) where
   vote-kept : (b : ℕ) (m : TwoB) → Says H (twoB b m) → ReaderTrue s H (noteVoteRow r b m)
