@@ -66,7 +66,7 @@ module _ (hall block : List ℕ) (place : ℕ) (long : length hall ≡ hallSize)
 pub run-block : (n : ℕ) (f : ℕ → List ℕ) → ((k : ℕ) → length (f k) ≡ blockSize) → (k : ℕ) → k < n → blockAt (run n f) k ≡ f k
 unfolding run blockAt
 run-block zero f h k l = absurd (omega arith)
-run-block (suc n) f h k l = ⊎-elim here there (below-suc l)
+run-block (suc n) f h k l = ⊎-elim here (λ m. there m (run-block n f h k m)) (below-suc l)
   where
     size : length (run n f) ≡ blockSize * n
     size = length-run blockSize n f h
@@ -74,7 +74,7 @@ run-block (suc n) f h k l = ⊎-elim here there (below-suc l)
     here : k ≡ n → take blockSize (drop (blockSize * k) (run n f ++ f n)) ≡ f k
     here e = rw e (ap (λ (l : List ℕ). take blockSize l) (drop-at (run n f) (f n) (blockSize * n) size) ∙ take-all blockSize (f n) (omega (arith, h n)))
 
-    there : k < n → take blockSize (drop (blockSize * k) (run n f ++ f n)) ≡ f k
-    there m =
-        ap (λ (l : List ℕ). take blockSize l) (drop-append-le (blockSize * k) (run n f) (f n) (omega arith)) ∙
-        take-append-le blockSize (drop (blockSize * k) (run n f)) (f n) (simp length-drop (omega arith)) ∙ run-block n f h k m
+    there : k < n → take blockSize (drop (blockSize * k) (run n f)) ≡ f k → take blockSize (drop (blockSize * k) (run n f ++ f n)) ≡ f k
+    there m e =
+        ap (λ (l : List ℕ). take blockSize l) (drop-append-le (blockSize * k) (run n f) (f n) (omega (arith, size))) ∙
+        take-append-le blockSize (drop (blockSize * k) (run n f)) (f n) (simp length-drop (omega (arith, size))) ∙ e

@@ -1,1 +1,3 @@
 pub mod Cells
+pub mod GoodBlocks
+pub mod GoodHalls
