@@ -1,3 +1,4 @@
 pub mod Cells
 pub mod GoodBlocks
 pub mod GoodHalls
+pub mod Written
