@@ -55,13 +55,16 @@ pub record GoodHall (instance : ℕ) (s : Setup) (count : ℕ) (hall : List ℕ)
   pub posted : (j : ℕ) → j < count → OfHall instance s (blockAt hall (messagesAt + j))
 
 -- the message that a block holds, by its kind
-unfoldable pub messageIn : List ℕ → Message
-messageIn block =
-    cond (eqb (byte block 2) 1) (propose (agentOf block) (bodyOf Sent.propose block))
-    (cond (eqb (byte block 2) 2) (oneA (agentOf block) (bodyOf Sent.oneA block))
-    (cond (eqb (byte block 2) 3) (oneB (agentOf block) (bodyOf Sent.oneB block))
-    (cond (eqb (byte block 2) 4) (twoS (agentOf block) (bodyOf Sent.twoS block))
-    (cond (eqb (byte block 2) 5) (twoA (agentOf block) (bodyOf Sent.twoA block)) (twoB (agentOf block) (bodyOf Sent.twoB block))))))
+unfoldable pub messageAs : ℕ → List ℕ → Message
+messageAs kind block =
+    cond (eqb kind 1) (propose (agentOf block) (bodyOf Sent.propose block))
+    (cond (eqb kind 2) (oneA (agentOf block) (bodyOf Sent.oneA block))
+    (cond (eqb kind 3) (oneB (agentOf block) (bodyOf Sent.oneB block))
+    (cond (eqb kind 4) (twoS (agentOf block) (bodyOf Sent.twoS block))
+    (cond (eqb kind 5) (twoA (agentOf block) (bodyOf Sent.twoA block)) (twoB (agentOf block) (bodyOf Sent.twoB block))))))
+
+abbrev pub messageIn : List ℕ → Message
+messageIn block = messageAs (byte block 2) block
 
 abbrev pub viewOf : ℕ → List ℕ → View
 viewOf count hall =
@@ -76,7 +79,7 @@ viewOf count hall =
 module _ {instance : ℕ} {s : Setup} where
   -- a good message keeps the rules that the moves rest on
   lawful : (block : List ℕ) → OfHall instance s block → Lawful s (messageIn block)
-  unfolding messageIn goodAs
+  unfolding messageAs goodAs
   lawful block h = go _ _ _ _ _ refl refl refl refl refl
     where
       a-two-a : isA Sent.twoA block ≡ true → Good Sent.twoA (stampFor instance s (agentOf block)) block

@@ -2,3 +2,5 @@ pub mod Cells
 pub mod GoodBlocks
 pub mod GoodHalls
 pub mod Written
+pub mod HallNumbers
+pub mod OneStep
