@@ -4,7 +4,7 @@ use native.Mathlib.Omega.{arith}
 use lib.Dec.{ltb, eqb}
 use lib.ListN.{length}
 use mathlib.Core.Path.{_≡_, refl, sym, ap, subst, _∙_}
-use mathlib.Core.Bool.{Bool, true, false, cond, not, _&&_, _||_}
+use mathlib.Core.Bool.{Bool, true, false, cond, not, _&&_, _||_, false≢true}
 use mathlib.Core.Logic.{⊎-elim}
 use mathlib.Core.List.{List}
 use borrow.Author.Tests.{eqb-true, eqb-false, eq-eqb, ltb-true}
@@ -108,15 +108,18 @@ module _ {instance : ℕ} {s : Setup} {count : ℕ} {hall : List ℕ} (g : GoodH
         subst (λ (p : ℕ). GoodNamed instance s (x .agent) (blockAt hall p)) (sym (named-place x))
         (named-good x _ (g .rows (whoOf x) (named-exists s x named-agent)))
 
-    pub named-message : names (x .code) ≡ true → OfHall instance s (messageOf hall x)
+    pub named-number : names (x .code) ≡ true → x .message < count
     unfolding stepExists
-    named-message n = g .posted (x .message) (ltb-true _ _ (⊎-elim (λ e. absurd (clash e)) (λ e. e) (or-cases (not (names (x .code))) _ last)))
+    named-number n = ltb-true _ _ (⊎-elim (λ e. absurd (clash e)) (λ e. e) (or-cases (not (names (x .code))) _ last))
       where
         last : not (names (x .code)) || ltb (x .message) count ≡ true
         last = and-right (isCode (x .code) && ltb (x .agent) (agentsFor s (x .code))) _ exists
 
         clash : not (names (x .code)) ≡ true → ⊥
-        clash e = mathlib.Core.Bool.false≢true (ap not (sym n) ∙ e)
+        clash e = false≢true (ap not (sym n) ∙ e)
+
+    named-message : names (x .code) ≡ true → OfHall instance s (messageOf hall x)
+    named-message n = g .posted (x .message) (named-number n)
 
     pub act-is : hallAct hall x ≡ actIn
     unfolding hallAct

@@ -4,3 +4,5 @@ pub mod GoodHalls
 pub mod Written
 pub mod HallNumbers
 pub mod OneStep
+pub mod Stepped
+pub mod RacksOnBytes

@@ -1,0 +1,63 @@
+-- What is shown of each of the thirteen on a good hall: the hall is good again, and its rows and messages made a granted step.
+use Prim.Native.Nat.{ℕ, _+_, _<_}
+use mathlib.Core.Path.{_≡_, sym, ap, _∙_}
+use mathlib.Core.Bool.{true}
+use mathlib.Core.List.{List}
+use Rattle.below.specs.Refusals.{granted}
+use Rattle.below.proofs.Rows.{length-row}
+use Rattle.rounds.specs.declared.setup.Setup.{Setup}
+use Rattle.pages.specs.Racks.{mostRacks}
+use Rattle.blocks.specs.Kinds.{Kind}
+use Rattle.fields.specs.Layout.{page}
+use Rattle.message_blocks.proofs.Theorems.{Lined}
+use Rattle.acts.specs.declared.step.Step.{Step}
+use Rattle.acts.specs.Acts.{Act, isA, bodyOf, agentOf, onRow, onBoth}
+use Rattle.hall.specs.Halls.{messagesAt, blockAt}
+use Rattle.hall.specs.Steps.{granting}
+use Rattle.safety.proofs.TrueMessages.{Message}
+use Rattle.safety.proofs.StepsKeep.{Grants}
+use Rattle.promise.specs.Runs.{countAfter, offersOf}
+use Rattle.promise.proofs.GoodBlocks.{stampFor, Good, of-kind}
+use Rattle.promise.proofs.GoodHalls.{GoodHall, viewOf}
+use Rattle.promise.proofs.HallNumbers.{actIn, HallGranted}
+use Rattle.promise.proofs.OneStep.{PostKind, on-row, on-both}
+
+abbrev pub stepOf : ℕ → ℕ → ℕ → ℕ → ℕ → ℕ → ℕ → Step
+stepOf code a j n c cf v = record { code = code; agent = a; message = j; n = n; c = c; cf = cf; reading = v }
+
+pub record Stepped (instance : ℕ) (s : Setup) (count : ℕ) (hall : List ℕ) (x : Step) : Type 0 where
+  pub good : GoodHall instance s (countAfter x count) (granting hall x)
+  pub grants : Grants s (viewOf count hall) (viewOf (countAfter x count) (granting hall x)) (offersOf x)
+
+-- pages as they are read have all their lines
+pub page-lined : (bytes : List ℕ) (at : ℕ) → Lined (page .get bytes at)
+page-lined bytes at = length-row mostRacks _
+
+-- a step that reads a row and a message: the message is good and one of those in the post, and the step's own definition grants it
+pub record Handed {R M : Type 0} (k : Kind R) (m : Kind M) (message : ℕ → M → Message) (instance : ℕ) (s : Setup) (count : ℕ) (hall : List ℕ) (act : Act) (place j : ℕ) (step : R → M → Act) : Type 0 where
+  pub good : Good m (stampFor instance s (agentOf (blockAt hall (messagesAt + j)))) (blockAt hall (messagesAt + j))
+  pub posted : viewOf count hall .posted (message (agentOf (blockAt hall (messagesAt + j))) (bodyOf m (blockAt hall (messagesAt + j))))
+  pub number : step (bodyOf k (blockAt hall place)) (bodyOf m (blockAt hall (messagesAt + j))) .refusal ≡ granted
+  pub act-is : act ≡ step (bodyOf k (blockAt hall place)) (bodyOf m (blockAt hall (messagesAt + j)))
+
+module _ {instance : ℕ} {s : Setup} {count : ℕ} {hall : List ℕ} (g : GoodHall instance s count hall) (x : Step) (f : HallGranted g x) {R : Type 0} (k : Kind R) (place : ℕ) where
+  pub handed : {M : Type 0} (m : Kind M) (Shaped : M → Type 0) (message : ℕ → M → Message) → PostKind m Shaped message → (j : ℕ) → j < count → (step : R → M → Act) →
+      actIn g x ≡ onBoth k m (blockAt hall place) (blockAt hall (messagesAt + j)) step → Handed k m message instance s count hall (actIn g x) place j step
+  handed m Shaped message post j l step e =
+      record {
+        good = of-kind m Shaped (post .laws) (post .named _) (g .posted j l) (both .0);
+        posted = (j, l, post .reads _ (both .0));
+        number = ap (λ (y : Act). y .refusal) (sym (both .1) ∙ sym e) ∙ f .act;
+        act-is = e ∙ both .1;
+      }
+    where
+      both : (isA m (blockAt hall (messagesAt + j)) ≡ true) × (onBoth k m (blockAt hall place) (blockAt hall (messagesAt + j)) step ≡ step (bodyOf k (blockAt hall place)) (bodyOf m (blockAt hall (messagesAt + j))))
+      both = on-both k m (blockAt hall place) (blockAt hall (messagesAt + j)) step (ap (λ (y : Act). y .refusal) (sym e) ∙ f .act)
+
+  -- a step that reads its row alone
+  pub alone : (step : R → Act) → actIn g x ≡ onRow k (blockAt hall place) step →
+      (step (bodyOf k (blockAt hall place)) .refusal ≡ granted) × (actIn g x ≡ step (bodyOf k (blockAt hall place)))
+  alone step e = (ap (λ (y : Act). y .refusal) (sym is ∙ sym e) ∙ f .act, e ∙ is)
+    where
+      is : onRow k (blockAt hall place) step ≡ step (bodyOf k (blockAt hall place))
+      is = on-row k (blockAt hall place) step (ap (λ (y : Act). y .refusal) (sym e) ∙ f .act)
