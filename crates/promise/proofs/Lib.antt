@@ -6,3 +6,5 @@ pub mod HallNumbers
 pub mod OneStep
 pub mod Stepped
 pub mod RacksOnBytes
+pub mod BoxesOnBytes
+pub mod CoordinatorsOnBytes

@@ -1,15 +1,14 @@
 -- What is shown of each of the thirteen on a good hall: the hall is good again, and its rows and messages made a granted step.
-use Prim.Native.Nat.{ℕ, _+_, _<_}
+use Prim.Native.Nat.{ℕ, _+_, _*_, _<_}
+use lib.ListN.{getD}
 use mathlib.Core.Path.{_≡_, sym, ap, _∙_}
 use mathlib.Core.Bool.{true}
 use mathlib.Core.List.{List}
 use Rattle.below.specs.Refusals.{granted}
-use Rattle.below.proofs.Rows.{length-row}
+use Rattle.below.proofs.Rows.{row-at}
 use Rattle.rounds.specs.declared.setup.Setup.{Setup}
-use Rattle.pages.specs.Racks.{mostRacks}
 use Rattle.blocks.specs.Kinds.{Kind}
-use Rattle.fields.specs.Layout.{page}
-use Rattle.message_blocks.proofs.Theorems.{Lined}
+use Rattle.fields.specs.Codecs.{Codec, times}
 use Rattle.acts.specs.declared.step.Step.{Step}
 use Rattle.acts.specs.Acts.{Act, isA, bodyOf, agentOf, onRow, onBoth}
 use Rattle.hall.specs.Halls.{messagesAt, blockAt}
@@ -29,9 +28,9 @@ pub record Stepped (instance : ℕ) (s : Setup) (count : ℕ) (hall : List ℕ) 
   pub good : GoodHall instance s (countAfter x count) (granting hall x)
   pub grants : Grants s (viewOf count hall) (viewOf (countAfter x count) (granting hall x)) (offersOf x)
 
--- pages as they are read have all their lines
-pub page-lined : (bytes : List ℕ) (at : ℕ) → Lined (page .get bytes at)
-page-lined bytes at = length-row mostRacks _
+-- one of several values as they are read
+pub times-at : {A : Type 0} (n : ℕ) (past : A) (c : Codec A) (bytes : List ℕ) (at k : ℕ) → k < n → getD (times n past c .get bytes at) k past ≡ c .get bytes (at + c .size * k)
+times-at n past c bytes at k l = row-at n (λ i. c .get bytes (at + c .size * i)) k past l
 
 -- a step that reads a row and a message: the message is good and one of those in the post, and the step's own definition grants it
 pub record Handed {R M : Type 0} (k : Kind R) (m : Kind M) (message : ℕ → M → Message) (instance : ℕ) (s : Setup) (count : ℕ) (hall : List ℕ) (act : Act) (place j : ℕ) (step : R → M → Act) : Type 0 where
