@@ -8,3 +8,5 @@ pub mod Stepped
 pub mod RacksOnBytes
 pub mod BoxesOnBytes
 pub mod CoordinatorsOnBytes
+pub mod ReadersOnBytes
+pub mod EveryStep
