@@ -10,3 +10,5 @@ pub mod BoxesOnBytes
 pub mod CoordinatorsOnBytes
 pub mod ReadersOnBytes
 pub mod EveryStep
+pub mod FreshRows
+pub mod FreshHalls
