@@ -12,3 +12,4 @@ pub mod ReadersOnBytes
 pub mod EveryStep
 pub mod FreshRows
 pub mod FreshHalls
+pub mod Courses
