@@ -13,3 +13,4 @@ pub mod EveryStep
 pub mod FreshRows
 pub mod FreshHalls
 pub mod Courses
+pub mod PagesOnBytes
