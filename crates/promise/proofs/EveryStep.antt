@@ -21,7 +21,7 @@ use Rattle.promise.proofs.CoordinatorsOnBytes.{start-stepped, hear-step
 use Rattle.promise.proofs.ReadersOnBytes.{note-vote-stepped, note-blank-stepped, learn-stepped}
 
 module _ {instance : ℕ} {s : Setup} {count : ℕ} {hall : List ℕ} (g : GoodHall instance s count hall) where
-  code-range : (x : Step) → stepExists s count x ≡ true → (0 < x .code) × (x .code ≤ 13)
+  pub code-range : (x : Step) → stepExists s count x ≡ true → (0 < x .code) × (x .code ≤ 13)
   unfolding stepExists
   code-range x e = (ltb-true 0 (x .code) (and-left (ltb 0 (x .code)) (leb (x .code) 13) code), leb-true (x .code) 13 (and-right (ltb 0 (x .code)) (leb (x .code) 13) code))
     where

@@ -14,3 +14,4 @@ pub mod FreshRows
 pub mod FreshHalls
 pub mod Courses
 pub mod PagesOnBytes
+pub mod NeverRefused
