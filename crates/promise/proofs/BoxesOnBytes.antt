@@ -2,6 +2,7 @@
 use Prim.Native.Nat.{ℕ, _+_, _<_}
 use mathlib.Core.Path.{_≡_, refl}
 use mathlib.Core.Bool.{true}
+use mathlib.Core.Logic.{inl}
 use mathlib.Core.List.{List}
 use Rattle.below.proofs.Rows.{length-row}
 use Rattle.pages.specs.Racks.{mostRacks}
@@ -28,7 +29,7 @@ use Rattle.promise.proofs.GoodBlocks.{stampFor, good-agent, good-rules}
 use Rattle.promise.proofs.GoodHalls.{GoodHall}
 use Rattle.promise.proofs.HallNumbers.{HallGranted, named-agent, named-number}
 use Rattle.promise.proofs.OneStep.{box-row, one-a-post, one-b-post, two-s-post, two-a-post, two-b-post, sending-done}
-use Rattle.promise.proofs.Stepped.{stepOf, Stepped, handed}
+use Rattle.promise.proofs.Stepped.{stepOf, Stepped, box-apart, by-other, handed}
 
 module _ {instance : ℕ} {s : Setup} {count : ℕ} {hall : List ℕ} (g : GoodHall instance s count hall) (a j n c cf v : ℕ) where
   abbrev own : BoxRow
@@ -57,7 +58,11 @@ module _ {instance : ℕ} {s : Setup} {count : ℕ} {hall : List ℕ} (g : GoodH
       let done =
           sending-done g x f Rows.box _ box box-row a l refl (joinOf own m .row) (keeps .0) (shape .0) Sent.oneB _ oneB one-b-post (joinOf own m .sent) l (keeps .1)
           (shape .1) (b .act-is) in
-      record { good = done .good; grants = Grants.join a (agentOf message) m l (b .posted) (b .number) (done .own) (done .changes) }
+      record {
+        good = done .good;
+        grants = Grants.join a (agentOf message) m l (b .posted) (b .number) (done .own) (done .changes);
+        pages = λ i e. inl (by-other (done .changes) i e (box-apart a i));
+      }
 
   pub take-page-stepped : HallGranted g (stepOf 9 a j n c cf v) → Stepped instance s count hall (stepOf 9 a j n c cf v)
   unfolding actOf takePageAct rowsAt agentsFor
@@ -73,7 +78,11 @@ module _ {instance : ℕ} {s : Setup} {count : ℕ} {hall : List ℕ} (g : GoodH
       let done =
           sending-done g x f Rows.box _ box box-row a l refl (takePageOf own m .row) (keeps .0) (shape .0) Sent.twoB _ twoB two-b-post (takePageOf own m .sent) l (keeps .1)
           (shape .1) (b .act-is) in
-      record { good = done .good; grants = Grants.takePage a (agentOf message) m l (b .posted) (b .number) (done .own) (done .changes) }
+      record {
+        good = done .good;
+        grants = Grants.takePage a (agentOf message) m l (b .posted) (b .number) (done .own) (done .changes);
+        pages = λ i e. inl (by-other (done .changes) i e (box-apart a i));
+      }
 
   pub take-reading-stepped : HallGranted g (stepOf 10 a j n c cf v) → Stepped instance s count hall (stepOf 10 a j n c cf v)
   unfolding actOf takeReadingAct rowsAt agentsFor
@@ -92,4 +101,8 @@ module _ {instance : ℕ} {s : Setup} {count : ℕ} {hall : List ℕ} (g : GoodH
       let done =
           sending-done g x f Rows.box _ box box-row a l refl (takeReadingOf s own k m .row) (keeps .0) (shape .0) Sent.twoB _ twoB two-b-post
           (takeReadingOf s own k m .sent) l (keeps .1) (shape .1) (b .act-is) in
-      record { good = done .good; grants = Grants.takeReading a k m l (b .posted) (b .number) (done .own) (done .changes) }
+      record {
+        good = done .good;
+        grants = Grants.takeReading a k m l (b .posted) (b .number) (done .own) (done .changes);
+        pages = λ i e. inl (by-other (done .changes) i e (box-apart a i));
+      }

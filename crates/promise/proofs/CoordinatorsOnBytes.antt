@@ -5,6 +5,7 @@ use lib.Dec.{ltb, leb, eqb}
 use lib.ListN.{length}
 use mathlib.Core.Path.{_≡_, refl, ap, _∙_}
 use mathlib.Core.Bool.{true, not, _&&_}
+use mathlib.Core.Logic.{inl}
 use mathlib.Core.List.{List}
 use borrow.Author.Tests.{ltb-true, lt-ltb, ne-eqb}
 use Rattle.below.proofs.Tests.{and-true, and-left, and-right, or-true-left}
@@ -35,7 +36,7 @@ use Rattle.promise.proofs.GoodBlocks.{stampFor, good-agent, good-rules}
 use Rattle.promise.proofs.GoodHalls.{GoodHall}
 use Rattle.promise.proofs.HallNumbers.{HallGranted, named-agent, named-number}
 use Rattle.promise.proofs.OneStep.{coordinator-row, one-a-post, one-b-post, two-s-post, silent-done, sending-done}
-use Rattle.promise.proofs.Stepped.{stepOf, Stepped, handed, alone, times-at}
+use Rattle.promise.proofs.Stepped.{stepOf, Stepped, coordinator-apart, by-other, handed, alone, times-at}
 
 shaped : (r : CoordinatorRow) → CoordinatorShape r → CoordinatorShaped r
 unfolding heardAt
@@ -88,7 +89,11 @@ module _ {instance : ℕ} {s : Setup} {count : ℕ} {hall : List ℕ} (g : GoodH
       let done =
           sending-done g x f Rows.coordinator _ coordinator coordinator-row a l refl (startOf a own n cf .row) (keeps .0)
           (shaped _ (start-shape a own n cf own-shape)) Sent.oneA _ oneA one-a-post (startOf a own n cf .sent) l (keeps .1) tt (b .1) in
-      record { good = done .good; grants = Grants.start a n cf l (b .0) (done .own) (done .changes) }
+      record {
+        good = done .good;
+        grants = Grants.start a n cf l (b .0) (done .own) (done .changes);
+        pages = λ i e. inl (by-other (done .changes) i e (coordinator-apart a i));
+      }
 
   pub hear-stepped : HallGranted g (stepOf 4 a j n c cf v) → Stepped instance s count hall (stepOf 4 a j n c cf v)
   unfolding actOf hearAct rowsAt agentsFor
@@ -104,7 +109,11 @@ module _ {instance : ℕ} {s : Setup} {count : ℕ} {hall : List ℕ} (g : GoodH
           silent-done g x f Rows.coordinator _ coordinator coordinator-row a l refl (hearOf own k m .row)
           (hear-keeps s a own k m (good-agent Sent.oneB _ (one-b-post .laws) (b .good)) (own-rules l) (good-rules Sent.oneB _ (one-b-post .laws) (b .good)) (b .number))
           (shaped _ (hear-shape own k m own-shape (length-row mostRacks _))) (b .act-is) in
-      record { good = done .good; grants = Grants.hear a k m l (b .posted) (b .number) (done .own) (done .changes) }
+      record {
+        good = done .good;
+        grants = Grants.hear a k m l (b .posted) (b .number) (done .own) (done .changes);
+        pages = λ i e. inl (by-other (done .changes) i e (coordinator-apart a i));
+      }
 
   pub open-stepped : HallGranted g (stepOf 5 a j n c cf v) → Stepped instance s count hall (stepOf 5 a j n c cf v)
   unfolding actOf openAct rowsAt agentsFor
@@ -119,4 +128,8 @@ module _ {instance : ℕ} {s : Setup} {count : ℕ} {hall : List ℕ} (g : GoodH
       let done =
           sending-done g x f Rows.coordinator _ coordinator coordinator-row a l refl (openOf s a own .row) (keeps .0) (shaped _ (shape .0)) Sent.twoS _ twoS two-s-post
           (openOf s a own .sent) l (keeps .1) (shape .1) (b .1) in
-      record { good = done .good; grants = Grants.opening a l (b .0) (done .own) (done .changes) }
+      record {
+        good = done .good;
+        grants = Grants.opening a l (b .0) (done .own) (done .changes);
+        pages = λ i e. inl (by-other (done .changes) i e (coordinator-apart a i));
+      }

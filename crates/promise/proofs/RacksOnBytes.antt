@@ -2,6 +2,7 @@
 use Prim.Native.Nat.{ℕ, _+_, _<_}
 use mathlib.Core.Path.{_≡_, refl, sym, ap, _∙_}
 use mathlib.Core.Bool.{Bool, true, cond}
+use mathlib.Core.Logic.{inl}
 use mathlib.Core.List.{List}
 use Rattle.below.specs.Refusals.{granted, wrongMessage}
 use Rattle.pages.specs.Lines.{readingInRange}
@@ -32,7 +33,7 @@ use Rattle.promise.proofs.GoodBlocks.{stampFor, Good, good-is, good-rul
 use Rattle.promise.proofs.GoodHalls.{GoodHall}
 use Rattle.promise.proofs.HallNumbers.{HallGranted, named-agent, named-number}
 use Rattle.promise.proofs.OneStep.{rack-row, propose-post, two-s-post, two-a-post, silent-done, sending-done, posting-done}
-use Rattle.promise.proofs.Stepped.{stepOf, Stepped, handed}
+use Rattle.promise.proofs.Stepped.{stepOf, Stepped, rack-apart, by-other, handed}
 use native.Mathlib.Omega.{arith}
 
 module _ {instance : ℕ} {s : Setup} {count : ℕ} {hall : List ℕ} (g : GoodHall instance s count hall) (a j n c cf v : ℕ) where
@@ -66,7 +67,11 @@ module _ {instance : ℕ} {s : Setup} {count : ℕ} {hall : List ℕ} (g : GoodH
           })
           (refused wrongMessage))
           (good-is Rows.rack Any rack-kept good)) in
-      record { good = done .good; grants = Grants.offer a (record { 0 = v }) l (done .own) (done .changes) }
+      record {
+        good = done .good;
+        grants = Grants.offer a (record { 0 = v }) l (done .own) (done .changes);
+        pages = λ i e. inl (by-other (done .changes) i e (rack-apart a i));
+      }
 
   pub prepare-stepped : HallGranted g (stepOf 6 a j n c cf v) → Stepped instance s count hall (stepOf 6 a j n c cf v)
   unfolding actOf prepareAct rowsAt agentsFor
@@ -80,7 +85,11 @@ module _ {instance : ℕ} {s : Setup} {count : ℕ} {hall : List ℕ} (g : GoodH
       let done =
           silent-done g x f Rows.rack Any rack rack-row a l refl (prepareOf a own m .row)
           (prepare-keeps s a (agentOf message) own m (g .setup) l (good-rules Sent.twoS _ (two-s-post .laws) (b .good)) (b .number)) tt (b .act-is) in
-      record { good = done .good; grants = Grants.prepare a (agentOf message) m l (b .posted) (b .number) (done .own) (done .changes) }
+      record {
+        good = done .good;
+        grants = Grants.prepare a (agentOf message) m l (b .posted) (b .number) (done .own) (done .changes);
+        pages = λ i e. inl (by-other (done .changes) i e (rack-apart a i));
+      }
 
   pub fast-stepped : HallGranted g (stepOf 7 a j n c cf v) → Stepped instance s count hall (stepOf 7 a j n c cf v)
   unfolding actOf fastAct rowsAt agentsFor
@@ -95,7 +104,11 @@ module _ {instance : ℕ} {s : Setup} {count : ℕ} {hall : List ℕ} (g : GoodH
       let done =
           sending-done g x f Rows.rack Any rack rack-row a l refl (fastOf a own m .row) (keeps .0) tt Sent.twoA Any twoA two-a-post (fastOf a own m .sent) l (keeps .1) tt
           (b .act-is) in
-      record { good = done .good; grants = Grants.fast a (agentOf message) m l (b .posted) (b .number) (done .own) (done .changes) }
+      record {
+        good = done .good;
+        grants = Grants.fast a (agentOf message) m l (b .posted) (b .number) (done .own) (done .changes);
+        pages = λ i e. inl (by-other (done .changes) i e (rack-apart a i));
+      }
 
   pub blank-stepped : HallGranted g (stepOf 8 a j n c cf v) → Stepped instance s count hall (stepOf 8 a j n c cf v)
   unfolding actOf blankAct rowsAt agentsFor
@@ -110,4 +123,8 @@ module _ {instance : ℕ} {s : Setup} {count : ℕ} {hall : List ℕ} (g : GoodH
       let done =
           sending-done g x f Rows.rack Any rack rack-row a l refl (blankOf a own m .row) (keeps .0) tt Sent.twoA Any twoA two-a-post (blankOf a own m .sent) l (keeps .1) tt
           (b .act-is) in
-      record { good = done .good; grants = Grants.blank a (agentOf message) m l (b .posted) (b .number) (done .own) (done .changes) }
+      record {
+        good = done .good;
+        grants = Grants.blank a (agentOf message) m l (b .posted) (b .number) (done .own) (done .changes);
+        pages = λ i e. inl (by-other (done .changes) i e (rack-apart a i));
+      }

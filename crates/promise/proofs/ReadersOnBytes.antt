@@ -3,7 +3,7 @@ use Prim.Native.Nat.{ℕ, _+_, _<_}
 use lib.ListN.{length}
 use mathlib.Core.Path.{_≡_, refl, ap, _∙_}
 use mathlib.Core.Bool.{true}
-use mathlib.Core.Logic.{⊎-elim}
+use mathlib.Core.Logic.{inl, inr, ⊎-elim}
 use mathlib.Core.List.{List}
 use Rattle.below.specs.Refusals.{granted}
 use Rattle.below.proofs.Rows.{length-row}
@@ -32,7 +32,7 @@ use Rattle.readers.proofs.Shape.{ReaderShape, note-vote-shape, note-blank-shape
 use Rattle.acts.specs.declared.step.Step.{Step}
 use Rattle.acts.specs.Acts.{bodyOf, agentOf, silent, noteVoteAct, noteBlankAct, learnAct, actOf}
 use Rattle.hall.specs.Halls.{readersAt, messagesAt, blockAt}
-use Rattle.hall.specs.Steps.{rowsAt, agentsFor}
+use Rattle.hall.specs.Steps.{rowsAt, agentsFor, granting}
 use Rattle.safety.proofs.TrueMessages.{twoA, twoB}
 use Rattle.safety.proofs.Moved.{reader}
 use Rattle.safety.proofs.StepsKeep as Grants
@@ -40,7 +40,7 @@ use Rattle.promise.proofs.GoodBlocks.{stampFor, good-agent, good-rules}
 use Rattle.promise.proofs.GoodHalls.{GoodHall}
 use Rattle.promise.proofs.HallNumbers.{HallGranted, named-agent, named-number}
 use Rattle.promise.proofs.OneStep.{reader-row, two-a-post, two-b-post, silent-done}
-use Rattle.promise.proofs.Stepped.{stepOf, Stepped, handed, alone, times-at}
+use Rattle.promise.proofs.Stepped.{stepOf, PageStep, Stepped, by-reader, handed, alone, times-at}
 
 -- every held page has all its lines
 abbrev HeldLined : ReaderRow → Type 0
@@ -63,6 +63,14 @@ learn-lined : (s : Setup) (r : ReaderRow) (round : Round) → HeldLined r → co
 unfolding heldAt
 learn-lined s r round h e b l =
     ap (λ (x : ReaderRow). length (heldAt x b .page .lines)) (learn-granted s r round _ (counted-learns s r round) e .row-is) ∙ h b l
+
+note-vote-page : (r : ReaderRow) (b : ℕ) (m : TwoB) → noteVoteOf r b m .refusal ≡ granted → noteVoteOf r b m .row .page ≡ r .page
+unfolding noteVoteRow
+note-vote-page r b m h = ap (λ (x : ReaderRow). x .page) (note-vote-granted r b m h .row-is)
+
+note-blank-page : (r : ReaderRow) (k : ℕ) (m : TwoA) → noteBlankOf r k m .refusal ≡ granted → noteBlankOf r k m .row .page ≡ r .page
+unfolding noteBlankRow
+note-blank-page r k m h = ap (λ (x : ReaderRow). x .page) (note-blank-granted r k m h .row-is)
 
 module _ {instance : ℕ} {s : Setup} {count : ℕ} {hall : List ℕ} (g : GoodHall instance s count hall) (a j n c cf v : ℕ) where
   abbrev own : ReaderRow
@@ -96,7 +104,13 @@ module _ {instance : ℕ} {s : Setup} {count : ℕ} {hall : List ℕ} (g : GoodH
           silent-done g x f Rows.reader _ reader reader-row a l refl (noteVoteOf own k m .row)
           (note-vote-keeps s a own k m (good-agent Sent.twoB _ (two-b-post .laws) (b .good)) (own-rules l) (good-rules Sent.twoB _ (two-b-post .laws) (b .good)) (b .number))
           (shaped _ (note-vote-shape own k m own-shape) (note-vote-lined own k m own-held (length-row mostRacks _) (b .number))) (b .act-is) in
-      record { good = done .good; grants = Grants.noteVote a k m l (b .posted) (b .number) (done .own) (done .changes) }
+      record {
+        good = done .good;
+        grants = Grants.noteVote a k m l (b .posted) (b .number) (done .own) (done .changes);
+        pages =
+            by-reader (PageStep s hall (granting hall x) x) a (done .changes)
+            (inl (ap (λ (r : ReaderRow). r .page) (done .own) ∙ note-vote-page own k m (b .number))) (λ i. inl);
+      }
 
   pub note-blank-stepped : HallGranted g (stepOf 12 a j n c cf v) → Stepped instance s count hall (stepOf 12 a j n c cf v)
   unfolding actOf noteBlankAct rowsAt agentsFor
@@ -112,7 +126,13 @@ module _ {instance : ℕ} {s : Setup} {count : ℕ} {hall : List ℕ} (g : GoodH
           silent-done g x f Rows.reader _ reader reader-row a l refl (noteBlankOf own k m .row)
           (note-blank-keeps s a own k m (good-agent Sent.twoA _ (two-a-post .laws) (b .good)) (own-rules l) (good-rules Sent.twoA _ (two-a-post .laws) (b .good)) (b .number))
           (shaped _ (note-blank-shape own k m own-shape) (note-blank-lined own k m own-held (b .number))) (b .act-is) in
-      record { good = done .good; grants = Grants.noteBlank a k m l (b .posted) (b .number) (done .own) (done .changes) }
+      record {
+        good = done .good;
+        grants = Grants.noteBlank a k m l (b .posted) (b .number) (done .own) (done .changes);
+        pages =
+            by-reader (PageStep s hall (granting hall x) x) a (done .changes)
+            (inl (ap (λ (r : ReaderRow). r .page) (done .own) ∙ note-blank-page own k m (b .number))) (λ i. inl);
+      }
 
   pub learn-stepped : HallGranted g (stepOf 13 a j n c cf v) → Stepped instance s count hall (stepOf 13 a j n c cf v)
   unfolding actOf learnAct rowsAt agentsFor
@@ -126,4 +146,10 @@ module _ {instance : ℕ} {s : Setup} {count : ℕ} {hall : List ℕ} (g : GoodH
       let done =
           silent-done g x f Rows.reader _ reader reader-row a l refl (countedOf s own r .row) (learn-keeps s a own r _ (own-rules l) learns (b .0))
           (shaped _ (learn-shape s own r _ learns own-shape) (learn-lined s own r own-held (b .0))) (b .1) in
-      record { good = done .good; grants = Grants.learn a r _ l learns (b .0) (done .own) (done .changes) }
+      record {
+        good = done .good;
+        grants = Grants.learn a r _ l learns (b .0) (done .own) (done .changes);
+        pages =
+            by-reader (PageStep s hall (granting hall x) x) a (done .changes)
+            (inr (record { code-is = refl; agent-is = refl; answer = countedOf s own r; learns = learns; answers = b .0; row-is = done .own })) (λ i. inl);
+      }

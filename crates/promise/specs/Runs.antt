@@ -8,9 +8,13 @@ use mathlib.Core.List.{List, [], _∷_, _++_}
 use Rattle.below.specs.Refusals.{granted}
 use Rattle.pages.specs.declared.line.Reading.{Reading}
 use Rattle.pages.specs.declared.page.Page.{Page}
+use Rattle.rounds.specs.declared.setup.Setup.{Setup}
 use Rattle.rounds.specs.Setups.{oneTo}
+use Rattle.rounds.specs.Rounds.{roundOf}
 use Rattle.records.specs.declared.rows.ReaderRow.{ReaderRow}
 use Rattle.row_blocks.specs.Rows.{reader}
+use Rattle.readers.specs.declared.answer.Noted.{Noted}
+use Rattle.readers.specs.Learning.{Learns}
 use Rattle.acts.specs.declared.step.Step.{Step}
 use Rattle.acts.specs.Acts.{bodyOf}
 use Rattle.hall.specs.Halls.{readersAt, blockAt}
@@ -42,6 +46,15 @@ pub record OfferedBy (hall : List ℕ) (steps : List Step) (v : Reading) : Type 
   pub code-is : offer .code ≡ 1
   pub reading-is : record { 0 = offer .reading } ≡ v
   pub was-granted : hallRefusal (runHall before hall) offer ≡ granted
+
+-- a learn of this reader, and what the rule for learning (readers/specs/Learning.antt) says of its new row
+pub record LearntBy (s : Setup) (hall hall′ : List ℕ) (x : Step) (i : ℕ) : Type 0 where
+  pub code-is : x .code ≡ 13
+  pub agent-is : x .agent ≡ i
+  pub answer : Noted
+  pub learns : Learns s (readerOf hall i) (roundOf (x .n) (x .c) (x .cf)) answer
+  pub answers : answer .refusal ≡ granted
+  pub row-is : readerOf hall′ i ≡ answer .row
 
 -- the steps that send: offer, start, join, open, fast, blank, take page, take reading
 abbrev pub sends : ℕ → Bool
