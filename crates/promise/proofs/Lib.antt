@@ -15,3 +15,4 @@ pub mod FreshHalls
 pub mod Courses
 pub mod PagesOnBytes
 pub mod NeverRefused
+pub mod Demand3
