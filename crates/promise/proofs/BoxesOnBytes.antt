@@ -50,14 +50,14 @@ module _ {instance : ℕ} {s : Setup} {count : ℕ} {hall : List ℕ} (g : GoodH
       let x : Step = stepOf 3 a j n c cf v in
       let l : a < s .boxes = named-agent g x (f .exists) in
       let b =
-          handed g x f Rows.box (boxesAt + a) Sent.oneA _ oneA one-a-post j (named-number g x (f .exists) refl)
-          (λ r m. sending Rows.box Sent.oneB (stampFor instance s a) (joinOf r m .refusal) (joinOf r m .row) (joinOf r m .sent)) refl in
+      handed g x f Rows.box (boxesAt + a) Sent.oneA _ oneA one-a-post j (named-number g x (f .exists) refl)
+      (λ r m. sending Rows.box Sent.oneB (stampFor instance s a) (joinOf r m .refusal) (joinOf r m .row) (joinOf r m .sent)) refl in
       let m : OneA = bodyOf Sent.oneA message in
       let keeps = join-keeps s a (agentOf message) own m (own-rules l) (good-rules Sent.oneA _ (one-a-post .laws) (b .good)) (b .number) in
       let shape = join-shape own m own-shape in
       let done =
-          sending-done g x f Rows.box _ box box-row a l refl (joinOf own m .row) (keeps .0) (shape .0) Sent.oneB _ oneB one-b-post (joinOf own m .sent) l (keeps .1)
-          (shape .1) (b .act-is) in
+      sending-done g x f Rows.box _ box box-row a l refl (joinOf own m .row) (keeps .0) (shape .0) Sent.oneB _ oneB one-b-post (joinOf own m .sent) l (keeps .1)
+      (shape .1) (b .act-is) in
       record {
         good = done .good;
         grants = Grants.join a (agentOf message) m l (b .posted) (b .number) (done .own) (done .changes);
@@ -70,14 +70,14 @@ module _ {instance : ℕ} {s : Setup} {count : ℕ} {hall : List ℕ} (g : GoodH
       let x : Step = stepOf 9 a j n c cf v in
       let l : a < s .boxes = named-agent g x (f .exists) in
       let b =
-          handed g x f Rows.box (boxesAt + a) Sent.twoS _ twoS two-s-post j (named-number g x (f .exists) refl)
-          (λ r m. sending Rows.box Sent.twoB (stampFor instance s a) (takePageOf r m .refusal) (takePageOf r m .row) (takePageOf r m .sent)) refl in
+      handed g x f Rows.box (boxesAt + a) Sent.twoS _ twoS two-s-post j (named-number g x (f .exists) refl)
+      (λ r m. sending Rows.box Sent.twoB (stampFor instance s a) (takePageOf r m .refusal) (takePageOf r m .row) (takePageOf r m .sent)) refl in
       let m : TwoS = bodyOf Sent.twoS message in
       let keeps = take-page-keeps s a (agentOf message) own m (good-rules Sent.twoS _ (two-s-post .laws) (b .good)) (b .number) in
       let shape = take-page-shape own m own-shape (length-row mostRacks _) in
       let done =
-          sending-done g x f Rows.box _ box box-row a l refl (takePageOf own m .row) (keeps .0) (shape .0) Sent.twoB _ twoB two-b-post (takePageOf own m .sent) l (keeps .1)
-          (shape .1) (b .act-is) in
+      sending-done g x f Rows.box _ box box-row a l refl (takePageOf own m .row) (keeps .0) (shape .0) Sent.twoB _ twoB two-b-post (takePageOf own m .sent) l (keeps .1)
+      (shape .1) (b .act-is) in
       record {
         good = done .good;
         grants = Grants.takePage a (agentOf message) m l (b .posted) (b .number) (done .own) (done .changes);
@@ -91,16 +91,16 @@ module _ {instance : ℕ} {s : Setup} {count : ℕ} {hall : List ℕ} (g : GoodH
       let l : a < s .boxes = named-agent g x (f .exists) in
       let k : ℕ = agentOf message in
       let b =
-          handed g x f Rows.box (boxesAt + a) Sent.twoA _ twoA two-a-post j (named-number g x (f .exists) refl)
-          (λ r m. sending Rows.box Sent.twoB (stampFor instance s a) (takeReadingOf s r k m .refusal) (takeReadingOf s r k m .row) (takeReadingOf s r k m .sent)) refl in
+      handed g x f Rows.box (boxesAt + a) Sent.twoA _ twoA two-a-post j (named-number g x (f .exists) refl)
+      (λ r m. sending Rows.box Sent.twoB (stampFor instance s a) (takeReadingOf s r k m .refusal) (takeReadingOf s r k m .row) (takeReadingOf s r k m .sent)) refl in
       let m : TwoA = bodyOf Sent.twoA message in
       let keeps =
-          take-reading-keeps s a own k m (g .setup) (good-agent Sent.twoA _ (two-a-post .laws) (b .good)) (own-rules l)
-          (good-rules Sent.twoA _ (two-a-post .laws) (b .good)) (b .number) in
+      take-reading-keeps s a own k m (g .setup) (good-agent Sent.twoA _ (two-a-post .laws) (b .good)) (own-rules l)
+      (good-rules Sent.twoA _ (two-a-post .laws) (b .good)) (b .number) in
       let shape = take-reading-shape s own k m own-shape in
       let done =
-          sending-done g x f Rows.box _ box box-row a l refl (takeReadingOf s own k m .row) (keeps .0) (shape .0) Sent.twoB _ twoB two-b-post
-          (takeReadingOf s own k m .sent) l (keeps .1) (shape .1) (b .act-is) in
+      sending-done g x f Rows.box _ box box-row a l refl (takeReadingOf s own k m .row) (keeps .0) (shape .0) Sent.twoB _ twoB two-b-post
+      (takeReadingOf s own k m .sent) l (keeps .1) (shape .1) (b .act-is) in
       record {
         good = done .good;
         grants = Grants.takeReading a k m l (b .posted) (b .number) (done .own) (done .changes);

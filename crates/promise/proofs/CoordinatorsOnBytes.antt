@@ -82,13 +82,13 @@ module _ {instance : ℕ} {s : Setup} {count : ℕ} {hall : List ℕ} (g : GoodH
       let x : Step = stepOf 2 a j n c cf v in
       let l : a < s .coordinators = named-agent g x (f .exists) in
       let b =
-          alone g x f Rows.coordinator (coordinatorsAt + a)
-          (λ r. sending Rows.coordinator Sent.oneA (stampFor instance s a) (startOf a r n cf .refusal) (startOf a r n cf .row) (startOf a r n cf .sent)) refl in
+      alone g x f Rows.coordinator (coordinatorsAt + a)
+      (λ r. sending Rows.coordinator Sent.oneA (stampFor instance s a) (startOf a r n cf .refusal) (startOf a r n cf .row) (startOf a r n cf .sent)) refl in
       let range = started-range s a n cf l (f .range) in
       let keeps = start-keeps s a own n cf (range .0) (range .1) (b .0) in
       let done =
-          sending-done g x f Rows.coordinator _ coordinator coordinator-row a l refl (startOf a own n cf .row) (keeps .0)
-          (shaped _ (start-shape a own n cf own-shape)) Sent.oneA _ oneA one-a-post (startOf a own n cf .sent) l (keeps .1) tt (b .1) in
+      sending-done g x f Rows.coordinator _ coordinator coordinator-row a l refl (startOf a own n cf .row) (keeps .0)
+      (shaped _ (start-shape a own n cf own-shape)) Sent.oneA _ oneA one-a-post (startOf a own n cf .sent) l (keeps .1) tt (b .1) in
       record {
         good = done .good;
         grants = Grants.start a n cf l (b .0) (done .own) (done .changes);
@@ -102,13 +102,13 @@ module _ {instance : ℕ} {s : Setup} {count : ℕ} {hall : List ℕ} (g : GoodH
       let l : a < s .coordinators = named-agent g x (f .exists) in
       let k : ℕ = agentOf message in
       let b =
-          handed g x f Rows.coordinator (coordinatorsAt + a) Sent.oneB _ oneB one-b-post j (named-number g x (f .exists) refl)
-          (λ r m. silent Rows.coordinator (stampFor instance s a) (hearOf r k m .refusal) (hearOf r k m .row)) refl in
+      handed g x f Rows.coordinator (coordinatorsAt + a) Sent.oneB _ oneB one-b-post j (named-number g x (f .exists) refl)
+      (λ r m. silent Rows.coordinator (stampFor instance s a) (hearOf r k m .refusal) (hearOf r k m .row)) refl in
       let m : OneB = bodyOf Sent.oneB message in
       let done =
-          silent-done g x f Rows.coordinator _ coordinator coordinator-row a l refl (hearOf own k m .row)
-          (hear-keeps s a own k m (good-agent Sent.oneB _ (one-b-post .laws) (b .good)) (own-rules l) (good-rules Sent.oneB _ (one-b-post .laws) (b .good)) (b .number))
-          (shaped _ (hear-shape own k m own-shape (length-row mostRacks _))) (b .act-is) in
+      silent-done g x f Rows.coordinator _ coordinator coordinator-row a l refl (hearOf own k m .row)
+      (hear-keeps s a own k m (good-agent Sent.oneB _ (one-b-post .laws) (b .good)) (own-rules l) (good-rules Sent.oneB _ (one-b-post .laws) (b .good)) (b .number))
+      (shaped _ (hear-shape own k m own-shape (length-row mostRacks _))) (b .act-is) in
       record {
         good = done .good;
         grants = Grants.hear a k m l (b .posted) (b .number) (done .own) (done .changes);
@@ -121,13 +121,13 @@ module _ {instance : ℕ} {s : Setup} {count : ℕ} {hall : List ℕ} (g : GoodH
       let x : Step = stepOf 5 a j n c cf v in
       let l : a < s .coordinators = named-agent g x (f .exists) in
       let b =
-          alone g x f Rows.coordinator (coordinatorsAt + a)
-          (λ r. sending Rows.coordinator Sent.twoS (stampFor instance s a) (openOf s a r .refusal) (openOf s a r .row) (openOf s a r .sent)) refl in
+      alone g x f Rows.coordinator (coordinatorsAt + a)
+      (λ r. sending Rows.coordinator Sent.twoS (stampFor instance s a) (openOf s a r .refusal) (openOf s a r .row) (openOf s a r .sent)) refl in
       let keeps = open-keeps s a own (own-rules l) (b .0) in
       let shape = open-shape s a own own-shape in
       let done =
-          sending-done g x f Rows.coordinator _ coordinator coordinator-row a l refl (openOf s a own .row) (keeps .0) (shaped _ (shape .0)) Sent.twoS _ twoS two-s-post
-          (openOf s a own .sent) l (keeps .1) (shape .1) (b .1) in
+      sending-done g x f Rows.coordinator _ coordinator coordinator-row a l refl (openOf s a own .row) (keeps .0) (shaped _ (shape .0)) Sent.twoS _ twoS two-s-post
+      (openOf s a own .sent) l (keeps .1) (shape .1) (b .1) in
       record {
         good = done .good;
         grants = Grants.opening a l (b .0) (done .own) (done .changes);

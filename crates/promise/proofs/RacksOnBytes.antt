@@ -53,20 +53,20 @@ module _ {instance : ℕ} {s : Setup} {count : ℕ} {hall : List ℕ} (g : GoodH
       let l : a < s .racks = named-agent g x (f .exists) in
       let good : Good Rows.rack (stampFor instance s a) (blockAt hall (racksAt + a)) = g .rows (rack a) l in
       let done =
-          posting-done g x f Rows.rack Any rack rack-row a l refl own (own-rules l) tt Sent.propose Any propose propose-post (offerOf (record { 0 = v })) l
-          (offer-keeps s a (record { 0 = v }) (f .range)) tt (blockAt hall (racksAt + a)) good
-          (length-block hall (racksAt + a) (g .long) (omega (arith, setup-fits s (g .setup) .racks))) refl
-          (ap
-          (λ (b : Bool).
-          cond b
-          (record {
-            refusal = granted;
-            row = blockAt hall (racksAt + a);
-            sends = true;
-            sent = encode Sent.propose (stampFor instance s a) (offerOf (record { 0 = v }));
-          })
-          (refused wrongMessage))
-          (good-is Rows.rack Any rack-kept good)) in
+      posting-done g x f Rows.rack Any rack rack-row a l refl own (own-rules l) tt Sent.propose Any propose propose-post (offerOf (record { 0 = v })) l
+      (offer-keeps s a (record { 0 = v }) (f .range)) tt (blockAt hall (racksAt + a)) good
+      (length-block hall (racksAt + a) (g .long) (omega (arith, setup-fits s (g .setup) .racks))) refl
+      (ap
+      (λ (b : Bool).
+      cond b
+      (record {
+        refusal = granted;
+        row = blockAt hall (racksAt + a);
+        sends = true;
+        sent = encode Sent.propose (stampFor instance s a) (offerOf (record { 0 = v }));
+      })
+      (refused wrongMessage))
+      (good-is Rows.rack Any rack-kept good)) in
       record {
         good = done .good;
         grants = Grants.offer a (record { 0 = v }) l (done .own) (done .changes);
@@ -79,12 +79,12 @@ module _ {instance : ℕ} {s : Setup} {count : ℕ} {hall : List ℕ} (g : GoodH
       let x : Step = stepOf 6 a j n c cf v in
       let l : a < s .racks = named-agent g x (f .exists) in
       let b =
-          handed g x f Rows.rack (racksAt + a) Sent.twoS _ twoS two-s-post j (named-number g x (f .exists) refl)
-          (λ r m. silent Rows.rack (stampFor instance s a) (prepareOf a r m .refusal) (prepareOf a r m .row)) refl in
+      handed g x f Rows.rack (racksAt + a) Sent.twoS _ twoS two-s-post j (named-number g x (f .exists) refl)
+      (λ r m. silent Rows.rack (stampFor instance s a) (prepareOf a r m .refusal) (prepareOf a r m .row)) refl in
       let m : TwoS = bodyOf Sent.twoS message in
       let done =
-          silent-done g x f Rows.rack Any rack rack-row a l refl (prepareOf a own m .row)
-          (prepare-keeps s a (agentOf message) own m (g .setup) l (good-rules Sent.twoS _ (two-s-post .laws) (b .good)) (b .number)) tt (b .act-is) in
+      silent-done g x f Rows.rack Any rack rack-row a l refl (prepareOf a own m .row)
+      (prepare-keeps s a (agentOf message) own m (g .setup) l (good-rules Sent.twoS _ (two-s-post .laws) (b .good)) (b .number)) tt (b .act-is) in
       record {
         good = done .good;
         grants = Grants.prepare a (agentOf message) m l (b .posted) (b .number) (done .own) (done .changes);
@@ -97,13 +97,13 @@ module _ {instance : ℕ} {s : Setup} {count : ℕ} {hall : List ℕ} (g : GoodH
       let x : Step = stepOf 7 a j n c cf v in
       let l : a < s .racks = named-agent g x (f .exists) in
       let b =
-          handed g x f Rows.rack (racksAt + a) Sent.propose _ propose propose-post j (named-number g x (f .exists) refl)
-          (λ r m. sending Rows.rack Sent.twoA (stampFor instance s a) (fastOf a r m .refusal) (fastOf a r m .row) (fastOf a r m .sent)) refl in
+      handed g x f Rows.rack (racksAt + a) Sent.propose _ propose propose-post j (named-number g x (f .exists) refl)
+      (λ r m. sending Rows.rack Sent.twoA (stampFor instance s a) (fastOf a r m .refusal) (fastOf a r m .row) (fastOf a r m .sent)) refl in
       let m : Propose = bodyOf Sent.propose message in
       let keeps = fast-keeps s a (agentOf message) own m (own-rules l) (good-rules Sent.propose _ (propose-post .laws) (b .good)) (b .number) in
       let done =
-          sending-done g x f Rows.rack Any rack rack-row a l refl (fastOf a own m .row) (keeps .0) tt Sent.twoA Any twoA two-a-post (fastOf a own m .sent) l (keeps .1) tt
-          (b .act-is) in
+      sending-done g x f Rows.rack Any rack rack-row a l refl (fastOf a own m .row) (keeps .0) tt Sent.twoA Any twoA two-a-post (fastOf a own m .sent) l (keeps .1) tt
+      (b .act-is) in
       record {
         good = done .good;
         grants = Grants.fast a (agentOf message) m l (b .posted) (b .number) (done .own) (done .changes);
@@ -116,13 +116,13 @@ module _ {instance : ℕ} {s : Setup} {count : ℕ} {hall : List ℕ} (g : GoodH
       let x : Step = stepOf 8 a j n c cf v in
       let l : a < s .racks = named-agent g x (f .exists) in
       let b =
-          handed g x f Rows.rack (racksAt + a) Sent.twoA _ twoA two-a-post j (named-number g x (f .exists) refl)
-          (λ r m. sending Rows.rack Sent.twoA (stampFor instance s a) (blankOf a r m .refusal) (blankOf a r m .row) (blankOf a r m .sent)) refl in
+      handed g x f Rows.rack (racksAt + a) Sent.twoA _ twoA two-a-post j (named-number g x (f .exists) refl)
+      (λ r m. sending Rows.rack Sent.twoA (stampFor instance s a) (blankOf a r m .refusal) (blankOf a r m .row) (blankOf a r m .sent)) refl in
       let m : TwoA = bodyOf Sent.twoA message in
       let keeps = blank-keeps s a own m (own-rules l) (b .number) in
       let done =
-          sending-done g x f Rows.rack Any rack rack-row a l refl (blankOf a own m .row) (keeps .0) tt Sent.twoA Any twoA two-a-post (blankOf a own m .sent) l (keeps .1) tt
-          (b .act-is) in
+      sending-done g x f Rows.rack Any rack rack-row a l refl (blankOf a own m .row) (keeps .0) tt Sent.twoA Any twoA two-a-post (blankOf a own m .sent) l (keeps .1) tt
+      (b .act-is) in
       record {
         good = done .good;
         grants = Grants.blank a (agentOf message) m l (b .posted) (b .number) (done .own) (done .changes);

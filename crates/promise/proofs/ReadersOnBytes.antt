@@ -97,13 +97,13 @@ module _ {instance : ℕ} {s : Setup} {count : ℕ} {hall : List ℕ} (g : GoodH
       let l : a < s .readers = named-agent g x (f .exists) in
       let k : ℕ = agentOf message in
       let b =
-          handed g x f Rows.reader (readersAt + a) Sent.twoB _ twoB two-b-post j (named-number g x (f .exists) refl)
-          (λ r m. silent Rows.reader (stampFor instance s a) (noteVoteOf r k m .refusal) (noteVoteOf r k m .row)) refl in
+      handed g x f Rows.reader (readersAt + a) Sent.twoB _ twoB two-b-post j (named-number g x (f .exists) refl)
+      (λ r m. silent Rows.reader (stampFor instance s a) (noteVoteOf r k m .refusal) (noteVoteOf r k m .row)) refl in
       let m : TwoB = bodyOf Sent.twoB message in
       let done =
-          silent-done g x f Rows.reader _ reader reader-row a l refl (noteVoteOf own k m .row)
-          (note-vote-keeps s a own k m (good-agent Sent.twoB _ (two-b-post .laws) (b .good)) (own-rules l) (good-rules Sent.twoB _ (two-b-post .laws) (b .good)) (b .number))
-          (shaped _ (note-vote-shape own k m own-shape) (note-vote-lined own k m own-held (length-row mostRacks _) (b .number))) (b .act-is) in
+      silent-done g x f Rows.reader _ reader reader-row a l refl (noteVoteOf own k m .row)
+      (note-vote-keeps s a own k m (good-agent Sent.twoB _ (two-b-post .laws) (b .good)) (own-rules l) (good-rules Sent.twoB _ (two-b-post .laws) (b .good)) (b .number))
+      (shaped _ (note-vote-shape own k m own-shape) (note-vote-lined own k m own-held (length-row mostRacks _) (b .number))) (b .act-is) in
       record {
         good = done .good;
         grants = Grants.noteVote a k m l (b .posted) (b .number) (done .own) (done .changes);
@@ -119,13 +119,13 @@ module _ {instance : ℕ} {s : Setup} {count : ℕ} {hall : List ℕ} (g : GoodH
       let l : a < s .readers = named-agent g x (f .exists) in
       let k : ℕ = agentOf message in
       let b =
-          handed g x f Rows.reader (readersAt + a) Sent.twoA _ twoA two-a-post j (named-number g x (f .exists) refl)
-          (λ r m. silent Rows.reader (stampFor instance s a) (noteBlankOf r k m .refusal) (noteBlankOf r k m .row)) refl in
+      handed g x f Rows.reader (readersAt + a) Sent.twoA _ twoA two-a-post j (named-number g x (f .exists) refl)
+      (λ r m. silent Rows.reader (stampFor instance s a) (noteBlankOf r k m .refusal) (noteBlankOf r k m .row)) refl in
       let m : TwoA = bodyOf Sent.twoA message in
       let done =
-          silent-done g x f Rows.reader _ reader reader-row a l refl (noteBlankOf own k m .row)
-          (note-blank-keeps s a own k m (good-agent Sent.twoA _ (two-a-post .laws) (b .good)) (own-rules l) (good-rules Sent.twoA _ (two-a-post .laws) (b .good)) (b .number))
-          (shaped _ (note-blank-shape own k m own-shape) (note-blank-lined own k m own-held (b .number))) (b .act-is) in
+      silent-done g x f Rows.reader _ reader reader-row a l refl (noteBlankOf own k m .row)
+      (note-blank-keeps s a own k m (good-agent Sent.twoA _ (two-a-post .laws) (b .good)) (own-rules l) (good-rules Sent.twoA _ (two-a-post .laws) (b .good)) (b .number))
+      (shaped _ (note-blank-shape own k m own-shape) (note-blank-lined own k m own-held (b .number))) (b .act-is) in
       record {
         good = done .good;
         grants = Grants.noteBlank a k m l (b .posted) (b .number) (done .own) (done .changes);
@@ -141,11 +141,11 @@ module _ {instance : ℕ} {s : Setup} {count : ℕ} {hall : List ℕ} (g : GoodH
       let l : a < s .readers = named-agent g x (f .exists) in
       let r : Round = roundOf n c cf in
       let b =
-          alone g x f Rows.reader (readersAt + a) (λ y. silent Rows.reader (stampFor instance s a) (countedOf s y r .refusal) (countedOf s y r .row)) refl in
+      alone g x f Rows.reader (readersAt + a) (λ y. silent Rows.reader (stampFor instance s a) (countedOf s y r .refusal) (countedOf s y r .row)) refl in
       let learns = counted-learns s own r in
       let done =
-          silent-done g x f Rows.reader _ reader reader-row a l refl (countedOf s own r .row) (learn-keeps s a own r _ (own-rules l) learns (b .0))
-          (shaped _ (learn-shape s own r _ learns own-shape) (learn-lined s own r own-held (b .0))) (b .1) in
+      silent-done g x f Rows.reader _ reader reader-row a l refl (countedOf s own r .row) (learn-keeps s a own r _ (own-rules l) learns (b .0))
+      (shaped _ (learn-shape s own r _ learns own-shape) (learn-lined s own r own-held (b .0))) (b .1) in
       record {
         good = done .good;
         grants = Grants.learn a r _ l learns (b .0) (done .own) (done .changes);
