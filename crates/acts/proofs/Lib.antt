@@ -1,3 +1,4 @@
 pub mod Familiar
 pub mod Ways
 pub mod Answered
+pub mod Coded

@@ -6,6 +6,8 @@ use mathlib.Core.Bool.{Bool, cond, _&&_}
 use mathlib.Core.List.{List}
 use Rattle.below.specs.Refusals.{granted}
 use Rattle.records.specs.declared.stamp.Stamp.{Stamp}
+use Rattle.acts.specs.declared.step.Step.{Step}
+use Rattle.acts.specs.declared.numbers.Numbers.{Numbers}
 use Rattle.acts.specs.Acts.{Act}
 use Rattle.acts.specs.Named.{stampOf, bothRefusal, rowRefusal}
 
@@ -35,3 +37,7 @@ ActsOnRow hall late row act = Acts (rowRefusal hall late row (act (stampOf row) 
 
 abbrev pub KeepsOnRow : Stamp → ℕ → List ℕ → (Stamp → List ℕ → Act) → ℕ → List ℕ → List ℕ → Type 0
 KeepsOnRow hall late row act = Keeps (rowRefusal hall late row (act (stampOf row) row .refusal)) (act (stampOf row) row)
+
+-- the step of a code and its numbers, of which no act reads agent and message number
+abbrev pub stepOf : ℕ → Numbers → Step
+stepOf code x = record { code = code; agent = 0; message = 0; n = x .round .n .0; c = x .round .c; cf = x .round .cf; reading = x .reading .0 }

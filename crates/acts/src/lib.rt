@@ -6,20 +6,24 @@
 // comes before and after is theirs. They have looked at the lengths, so an act asks for blocks of 512
 // bytes, and hand on what they found out of range as `late`, which stands between the two refusals 2.
 mod acted;
+mod acts;
 mod box_acts;
 mod coordinator_acts;
 mod named;
+mod numbers;
 mod rack_acts;
 mod reader_acts;
 mod step;
 
 pub use acted::Acted;
+pub use acts::act;
 pub use box_acts::join;
 pub use box_acts::take_page;
 pub use box_acts::take_reading;
 pub use coordinator_acts::hear;
 pub use coordinator_acts::open;
 pub use coordinator_acts::start;
+pub use numbers::Numbers;
 pub use rack_acts::blank;
 pub use rack_acts::fast;
 pub use rack_acts::offer;
