@@ -2,11 +2,11 @@
 use Prim.Native.Nat.{ℕ, zero, suc, _+_, _≤_, _<_}
 use native.Mathlib.Omega.{arith}
 use lib.Dec.{leb, eqb}
-use mathlib.Core.Path.{_≡_, refl, sym, ap, subst, _∙_}
+use mathlib.Core.Path.{_≡_, refl, sym, subst}
 use mathlib.Core.Bool.{Bool, true, false, cond, not, _&&_}
 use mathlib.Core.Logic.{_⊎_, inl, inr, _≢_, ⊎-elim}
 use mathlib.Core.List.{List}
-use Rattle.below.specs.Refusals.{unless, granted, wrongMessage, linesClash}
+use Rattle.below.specs.Refusals.{unless, granted, wrongMessage}
 use Rattle.below.proofs.Tests.{and-right, decided}
 use Rattle.pages.specs.Lines.{isNil, isReading, isAbsent}
 use Rattle.pages.specs.Racks.{has}
@@ -47,8 +47,8 @@ use Rattle.readers.proofs.CountingLearns.{counted-learns}
 use Rattle.below.proofs.Granted.{answer-number}
 use Rattle.acts.specs.declared.step.Step.{Step}
 use Rattle.acts.specs.Acts.{Act, refused, sending, silent, isA, bodyOf, agentOf, onRow, onBoth, actOf, offerAct, startAct, joinAct, hearAct, openAct, prepareAct, fastAct, blankAct, takePageAct, takeReadingAct, noteVoteAct, noteBlankAct, learnAct}
-use Rattle.hall.specs.Halls.{outOfRange, coordinatorsAt, boxesAt, racksAt, readersAt, messagesAt, blockAt, freshHall}
-use Rattle.hall.specs.Steps.{rowsAt, agentsFor, stepExists, numbersInRange, postFull, fits, hallRefusal}
+use Rattle.hall.specs.Halls.{coordinatorsAt, boxesAt, racksAt, readersAt, messagesAt, blockAt, freshHall}
+use Rattle.hall.specs.Steps.{rowsAt, agentsFor, stepExists, numbersInRange, fits, hallRefusal}
 use Rattle.safety.proofs.TrueMessages.{twoB}
 use Rattle.safety.proofs.Moved.{coordinator}
 use Rattle.safety.proofs.FreshRuns.{open-fits, note-vote-fits, learn-fits}
