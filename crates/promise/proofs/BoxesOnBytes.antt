@@ -25,11 +25,12 @@ use Rattle.hall.specs.Steps.{rowsAt, agentsFor}
 use Rattle.safety.proofs.TrueMessages.{oneA, oneB, twoS, twoA, twoB}
 use Rattle.safety.proofs.Moved.{box}
 use Rattle.safety.proofs.StepsKeep as Grants
+use Rattle.safety.proofs.PagesChange.{box-apart}
 use Rattle.promise.proofs.GoodBlocks.{stampFor, good-agent, good-rules}
 use Rattle.promise.proofs.GoodHalls.{GoodHall}
 use Rattle.promise.proofs.HallNumbers.{HallGranted, named-agent, named-number}
 use Rattle.promise.proofs.OneStep.{box-row, one-a-post, one-b-post, two-s-post, two-a-post, two-b-post, sending-done}
-use Rattle.promise.proofs.Stepped.{stepOf, Stepped, box-apart, by-other, handed}
+use Rattle.promise.proofs.Stepped.{stepOf, Stepped, by-other, handed}
 
 module _ {instance : ℕ} {s : Setup} {count : ℕ} {hall : List ℕ} (g : GoodHall instance s count hall) (a j n c cf v : ℕ) where
   abbrev own : BoxRow

@@ -1,7 +1,7 @@
 -- The steps of coordinators on the bytes of a good hall: start, hear, open.
 use Prim.Native.Nat.{ℕ, _+_, _<_}
 use native.Mathlib.Omega.{arith}
-use lib.Dec.{ltb, leb, eqb}
+use lib.Dec.{ltb, leb}
 use lib.ListN.{length}
 use mathlib.Core.Path.{_≡_, refl, ap, _∙_}
 use mathlib.Core.Bool.{true, not, _&&_}
@@ -32,11 +32,12 @@ use Rattle.hall.specs.Steps.{rowsAt, agentsFor, numbersInRange}
 use Rattle.safety.proofs.TrueMessages.{oneA, oneB, twoS}
 use Rattle.safety.proofs.Moved.{coordinator}
 use Rattle.safety.proofs.StepsKeep as Grants
+use Rattle.safety.proofs.PagesChange.{coordinator-apart}
 use Rattle.promise.proofs.GoodBlocks.{stampFor, good-agent, good-rules}
 use Rattle.promise.proofs.GoodHalls.{GoodHall}
 use Rattle.promise.proofs.HallNumbers.{HallGranted, named-agent, named-number}
 use Rattle.promise.proofs.OneStep.{coordinator-row, one-a-post, one-b-post, two-s-post, silent-done, sending-done}
-use Rattle.promise.proofs.Stepped.{stepOf, Stepped, coordinator-apart, by-other, handed, alone, times-at}
+use Rattle.promise.proofs.Stepped.{stepOf, Stepped, by-other, handed, alone, times-at}
 
 shaped : (r : CoordinatorRow) → CoordinatorShape r → CoordinatorShaped r
 unfolding heardAt

@@ -1,9 +1,8 @@
 -- The course of a run of steps from a good hall: each moment is a moment of the run of rows and messages that safety speaks of.
-use Prim.Native.Nat.{ℕ, zero, suc, _+_, _<_}
+use Prim.Native.Nat.{ℕ, zero, suc, _+_}
 use native.Mathlib.Omega.{arith}
 use native.Mathlib.Nat.{add-zero}
 use lib.Dec.{eqb}
-use lib.ListN.{take}
 use lib.Seq.{take-nil}
 use mathlib.Core.Path.{_≡_, refl, sym, ap, subst, _∙_}
 use mathlib.Core.Bool.{Bool, true, false, cond, _&&_}
@@ -18,9 +17,9 @@ use Rattle.hall.specs.Steps.{granting, hallRefusal, hallAfter}
 use Rattle.history.specs.History.{Offer, _∈_}
 use Rattle.safety.proofs.Views.{View}
 use Rattle.safety.proofs.Runs.{Run, then, Moment, last, earlier}
-use Rattle.promise.specs.Runs.{runHall, momentOf, OfferedBy, sends, sentBy, countAfter, offersOf}
+use Rattle.promise.specs.Runs.{runHall, momentOf, OfferedBy, sends, sentBy}
 use Rattle.promise.proofs.GoodHalls.{GoodHall, viewOf, hall-ruled}
-use Rattle.promise.proofs.Stepped.{Stepped}
+use Rattle.promise.proofs.Stepped.{countAfter, offersOf}
 use Rattle.promise.proofs.EveryStep.{every-step}
 
 -- a good hall that a run reaches

@@ -1,9 +1,8 @@
 -- Every granted step from a good hall, whatever its seven numbers: the hall is good again, and the step is one of the thirteen.
 use Prim.Native.Nat.{ℕ, zero, suc, _≤_, _<_}
 use native.Mathlib.Omega.{arith}
-use native.Mathlib.Decide.{ℕ-discrete}
 use lib.Dec.{ltb, leb}
-use mathlib.Core.Path.{_≡_, sym, subst}
+use mathlib.Core.Path.{_≡_}
 use mathlib.Core.Bool.{true, _&&_}
 use mathlib.Core.List.{List}
 use borrow.Author.Tests.{ltb-true, leb-true}

@@ -3,19 +3,14 @@ use Prim.Native.Nat.{ℕ, _+_, _-_, _≤_, _<_}
 use native.Mathlib.Omega.{arith}
 use lib.Dec.{ltb}
 use lib.ListN.{length, length-replicate}
-use mathlib.Core.Path.{_≡_, refl, sym, ap, subst, _∙_}
+use mathlib.Core.Path.{_≡_, sym, ap, subst, _∙_}
 use mathlib.Core.Bool.{Bool, true, false, cond}
-use mathlib.Core.List.{List}
 use borrow.Author.Tests.{lt-ltb, le-ltb}
 use Rattle.pages.proofs.Kept.{empty-whole}
 use Rattle.rounds.specs.declared.setup.Setup.{Setup}
 use Rattle.rounds.specs.Setups.{setupInRange}
-use Rattle.records.specs.declared.rows.CoordinatorRow.{CoordinatorRow}
-use Rattle.records.specs.Rules.{headRules}
 use Rattle.words.specs.Bytes.{zeros}
-use Rattle.fields.specs.Codecs.{run}
 use Rattle.fields.proofs.Times.{length-run}
-use Rattle.fields.proofs.Fitted.{Any}
 use Rattle.blocks.specs.Frame.{blockSize}
 use Rattle.blocks.specs.Kinds.{Kind, encode}
 use Rattle.blocks.proofs.Kept.{Kept}
@@ -23,8 +18,7 @@ use Rattle.blocks.proofs.Ranges.{SetupFits, setup-fits}
 use Rattle.row_blocks.specs.Rows as Rows
 use Rattle.row_blocks.proofs.Theorems.{head-kept, coordinator-kept, box-kept, rack-kept, reader-kept}
 use Rattle.acts.specs.Acts.{bodyOf}
-use Rattle.hall.specs.Halls.{hallSize, blocksOfHall, coordinatorsAt, boxesAt, racksAt, readersAt, messagesAt, blockAt, freshCoordinator, freshBox, freshRack, freshReader, rowOrZero, freshBlock, freshHall}
-use Rattle.safety.proofs.TrueMessages.{Message}
+use Rattle.hall.specs.Halls.{blocksOfHall, coordinatorsAt, boxesAt, racksAt, readersAt, messagesAt, blockAt, freshCoordinator, freshBox, freshRack, freshReader, rowOrZero, freshBlock, freshHall}
 use Rattle.safety.proofs.Moved.{Agent, coordinator, box, rack, reader}
 use Rattle.safety.proofs.FreshIsKept.{FreshView, FreshCoordinator, FreshBox, FreshRack, FreshReader, fresh-coordinator, fresh-box, fresh-rack, fresh-reader}
 use Rattle.promise.proofs.Cells.{run-block}

@@ -1,5 +1,5 @@
 -- Rows at the start keep the rules and have the shapes of their types.
-use Prim.Native.Nat.{ℕ, _<_}
+use Prim.Native.Nat.{ℕ}
 use native.Mathlib.Omega.{arith}
 use lib.Dec.{eqb, ltb}
 use lib.ListN.{length}
@@ -8,7 +8,6 @@ use mathlib.Core.Bool.{Bool, true, false, cond, not, _&&_, false≢true}
 use borrow.Author.Tests.{eq-eqb, lt-ltb}
 use Rattle.below.proofs.Tests.{and-true, and-left, and-right, or-true-left, all-true, not-true-false}
 use Rattle.below.proofs.Rows.{length-row, row-at}
-use Rattle.pages.specs.declared.line.Mark.{Mark}
 use Rattle.pages.specs.Lines.{isNil}
 use Rattle.pages.specs.Racks.{racksBelow}
 use Rattle.pages.specs.Pages.{at, empty, none, some, trivialOf}
@@ -22,7 +21,7 @@ use Rattle.rounds.proofs.Ordered.{equal-order}
 use Rattle.records.specs.declared.slots.Heard.{Heard}
 use Rattle.records.specs.declared.slots.Held.{Held}
 use Rattle.records.specs.Slots.{noHeard, noHeld, noBlank, heardAt, heldAt, blankAt}
-use Rattle.records.specs.Rules.{pageRules, voteRules, openedRules, lastRules, nothingHeard, nothingHeld, heardRules, heldRules, blankRules, allHeard, allHeld, allBlanks, coordinatorRules, boxRules, rackRules, readerRules}
+use Rattle.records.specs.Rules.{voteRules, openedRules, lastRules, nothingHeard, nothingHeld, heardRules, heldRules, blankRules, allHeard, allHeld, allBlanks, coordinatorRules, boxRules, rackRules, readerRules}
 use Rattle.records.proofs.RuleParts.{empty-open-rules}
 use Rattle.row_blocks.proofs.Theorems.{CoordinatorShaped, ReaderShaped}
 use Rattle.hall.specs.Halls.{freshCoordinator, freshBox, freshRack, freshReader}

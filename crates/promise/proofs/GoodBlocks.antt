@@ -1,6 +1,6 @@
 -- Good blocks of a hall, of any kind: what a good block says, and that what is encoded is one.
 use Prim.Native.Nat.{ℕ, _≤_, _<_}
-use lib.Dec.{leb, ltb, eqb}
+use lib.Dec.{leb, eqb}
 use mathlib.Core.Path.{_≡_, refl, sym, ap, subst, _∙_}
 use mathlib.Core.Bool.{true, _&&_}
 use mathlib.Core.List.{List}
@@ -12,7 +12,7 @@ use Rattle.records.specs.declared.stamp.Stamp.{Stamp}
 use Rattle.records.specs.Rules.{stampRules}
 use Rattle.words.specs.Bytes.{byte}
 use Rattle.blocks.specs.Kinds as Kinds
-use Rattle.blocks.specs.Kinds.{Kind, encode, decode, kept}
+use Rattle.blocks.specs.Kinds.{Kind, encode, kept}
 use Rattle.blocks.proofs.Kept.{Kept}
 use Rattle.kinds.specs.Known.{goodAs, known}
 use Rattle.acts.specs.Acts.{isA, bodyOf, agentOf}

@@ -6,7 +6,6 @@ use lib.ListN.{length}
 use mathlib.Core.Path.{_≡_, refl, subst}
 use mathlib.Core.Bool.{Bool, true, false, cond}
 use mathlib.Core.List.{List}
-use borrow.Author.Tests.{eqb-true}
 use Rattle.rounds.specs.declared.setup.Setup.{Setup}
 use Rattle.rounds.specs.Setups.{setupInRange}
 use Rattle.words.specs.Bytes.{byte}

@@ -2,7 +2,6 @@
 use Prim.Native.Nat.{ℕ, _+_, _<_}
 use native.Mathlib.Omega.{arith}
 use lib.Dec.{ltb, eqb}
-use lib.ListN.{length}
 use mathlib.Core.Path.{_≡_, refl, sym, ap, subst, _∙_}
 use mathlib.Core.Bool.{Bool, true, false, cond, not, _&&_, _||_, false≢true}
 use mathlib.Core.Logic.{⊎-elim}
@@ -13,18 +12,17 @@ use Rattle.below.proofs.Tests.{and-true, and-left, and-right, or-true-right, or
 use Rattle.below.proofs.Granted.{unless-held, unless-later}
 use Rattle.rounds.specs.declared.setup.Setup.{Setup}
 use Rattle.records.specs.declared.stamp.Stamp.{Stamp}
-use Rattle.fields.proofs.Fitted.{Any}
 use Rattle.blocks.specs.Kinds.{good}
 use Rattle.row_blocks.specs.Rows as Rows
-use Rattle.row_blocks.proofs.Theorems.{head-kept, coordinator-kept, box-kept, rack-kept, reader-kept}
+use Rattle.row_blocks.proofs.Theorems.{coordinator-kept, box-kept, rack-kept, reader-kept}
 use Rattle.kinds.specs.Known.{goodAs}
 use Rattle.acts.specs.declared.step.Step.{Step}
-use Rattle.acts.specs.Acts.{Act, actOf, agentOf}
+use Rattle.acts.specs.Acts.{Act, actOf}
 use Rattle.acts.specs.Named.{badBlock, otherHall, isGood, stampOf, sameHall, names, ownAct, namedRefusal}
-use Rattle.hall.specs.Halls.{wrongLength, outOfRange, hallSize, coordinatorsAt, boxesAt, racksAt, readersAt, messagesAt, blockAt}
-use Rattle.hall.specs.Steps.{byRack, byCoordinator, byBox, rowsAt, agentsFor, isCode, noSuchStep, stepExists, numbersInRange, headOf, countOf, rowPlace, rowOf, messageOf, hallAct, hallFor, postFull, fits, hallRefusal}
+use Rattle.hall.specs.Halls.{wrongLength, outOfRange, coordinatorsAt, boxesAt, racksAt, readersAt, blockAt}
+use Rattle.hall.specs.Steps.{byRack, byCoordinator, byBox, rowsAt, agentsFor, isCode, noSuchStep, stepExists, numbersInRange, headOf, countOf, rowPlace, rowOf, messageOf, hallAct, postFull, fits, hallRefusal}
 use Rattle.safety.proofs.Moved.{Agent, coordinator, box, rack, reader}
-use Rattle.promise.proofs.GoodBlocks.{stampFor, Good, OfHall, same-hall, of-hall}
+use Rattle.promise.proofs.GoodBlocks.{stampFor, OfHall, same-hall, of-hall}
 use Rattle.promise.proofs.GoodHalls.{placeOf, Exists, GoodRow, GoodHall}
 use Rattle.promise.proofs.Written.{head-good, head-is, count-is}
 

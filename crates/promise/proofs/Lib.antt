@@ -14,5 +14,6 @@ pub mod FreshRows
 pub mod FreshHalls
 pub mod Courses
 pub mod PagesOnBytes
+pub mod MildNumbers
 pub mod NeverRefused
 pub mod Demand3

@@ -1,9 +1,9 @@
 -- A granted step on the bytes, once for all thirteen: what its row and its message hold, and what the hall is after it.
 use Prim.Native.Nat.{ℕ, _+_, _<_}
-use lib.Dec.{eqb, ltb}
+use lib.Dec.{eqb}
 use lib.ListN.{length}
 use mathlib.Core.Path.{_≡_, refl, sym, ap, subst, _∙_}
-use mathlib.Core.Bool.{Bool, true, false, cond, not, _&&_, _||_, false≢true}
+use mathlib.Core.Bool.{Bool, true, false, cond, _&&_}
 use mathlib.Core.List.{List, []}
 use native.Mathlib.Omega.{arith}
 use borrow.Author.Tests.{eqb-true, ltb-true}
@@ -11,16 +11,6 @@ use Rattle.below.specs.Refusals.{granted, wrongMessage}
 use Rattle.below.proofs.Tests.{and-right}
 use Rattle.rounds.specs.declared.setup.Setup.{Setup}
 use Rattle.records.specs.declared.stamp.Stamp.{Stamp}
-use Rattle.records.specs.declared.messages.Propose.{Propose}
-use Rattle.records.specs.declared.messages.OneA.{OneA}
-use Rattle.records.specs.declared.messages.OneB.{OneB}
-use Rattle.records.specs.declared.messages.TwoS.{TwoS}
-use Rattle.records.specs.declared.messages.TwoA.{TwoA}
-use Rattle.records.specs.declared.messages.TwoB.{TwoB}
-use Rattle.records.specs.declared.rows.CoordinatorRow.{CoordinatorRow}
-use Rattle.records.specs.declared.rows.BoxRow.{BoxRow}
-use Rattle.records.specs.declared.rows.RackRow.{RackRow}
-use Rattle.records.specs.declared.rows.ReaderRow.{ReaderRow}
 use Rattle.words.specs.Bytes.{byte}
 use Rattle.fields.proofs.Fitted.{Any}
 use Rattle.blocks.specs.Frame.{blockSize}
@@ -35,14 +25,14 @@ use Rattle.row_blocks.proofs.Theorems.{coordinator-kept, box-kept, rack-kept, r
 use Rattle.kinds.specs.Known.{goodAs}
 use Rattle.acts.specs.declared.step.Step.{Step}
 use Rattle.acts.specs.Acts.{Act, refused, sending, silent, isA, bodyOf, agentOf, onRow, onBoth}
-use Rattle.acts.specs.Named.{stampOf, names}
-use Rattle.hall.specs.Halls.{messagesAt, blockAt}
-use Rattle.hall.specs.Steps.{mostMessages, putBlock, posted, rowPlace, messageOf, hallAct, granting, fits}
+use Rattle.acts.specs.Named.{names}
+use Rattle.hall.specs.Halls.{blockAt}
+use Rattle.hall.specs.Steps.{mostMessages, putBlock, posted, rowPlace, granting, fits}
 use Rattle.safety.proofs.TrueMessages.{Message, propose, oneA, oneB, twoS, twoA, twoB}
 use Rattle.safety.proofs.Moved.{Agent, coordinator, box, rack, reader}
 use Rattle.safety.proofs.Views.{Changes}
 use Rattle.safety.proofs.StepsKeep.{Only, Nothing}
-use Rattle.promise.proofs.GoodBlocks.{stampFor, Good, OfHall, good-is, encoded-good, encoded-body, of-hall}
+use Rattle.promise.proofs.GoodBlocks.{stampFor, Good, good-is, encoded-good, encoded-body, of-hall}
 use Rattle.promise.proofs.GoodHalls.{placeOf, Exists, GoodRow, GoodHall, messageAs, messageIn, viewOf}
 use Rattle.promise.proofs.Written.{Wrote, place-in, wrote-silent, wrote-sending, good-after, hall-changes}
 use Rattle.promise.proofs.HallNumbers.{actIn, act-is, HallGranted}

@@ -2,9 +2,9 @@
 use Prim.Native.Nat.{ℕ, _≤_, _<_}
 use lib.ListN.{take}
 use lib.Seq.{take-take}
-use mathlib.Core.Path.{_≡_, sym, ap, subst, _∙_}
+use mathlib.Core.Path.{_≡_, subst, _∙_}
 use mathlib.Core.Bool.{true, false}
-use mathlib.Core.Logic.{_⊎_, ⊎-elim}
+use mathlib.Core.Logic.{⊎-elim}
 use mathlib.Core.List.{List, [], List·Memᴰ·not-nil}
 use Rattle.pages.specs.declared.line.Reading.{Reading}
 use Rattle.pages.specs.declared.line.Mark.the-variants.{Nil, Reading as reads}
@@ -15,15 +15,14 @@ use Rattle.rounds.specs.Setups.{setupInRange}
 use Rattle.acts.specs.declared.step.Step.{Step}
 use Rattle.hall.specs.Halls.{freshHall}
 use Rattle.hall.specs.Steps.{countOf}
-use Rattle.history.specs.History.{Offer, Offered, _∈_}
-use Rattle.safety.proofs.Views.{View}
+use Rattle.history.specs.History.{Offered}
 use Rattle.safety.proofs.Runs.{none, last, run-gains}
 use Rattle.safety.proofs.FreshRuns.{shown-agree, shown-offered, shown-not-blank}
 use Rattle.promise.specs.Runs.{runHall, momentOf, pageOf, OfferedBy, sentBy}
 use Rattle.promise.proofs.GoodHalls.{viewOf}
 use Rattle.promise.proofs.Written.{count-is}
 use Rattle.promise.proofs.FreshHalls.{fresh-good, fresh-view}
-use Rattle.promise.proofs.Courses.{Reached, At, Course, course}
+use Rattle.promise.proofs.Courses.{Reached, Course, course}
 
 module _ (instance : ℕ) (s : Setup) (range : setupInRange s ≡ true) (small : instance ≤ 65535) where
   abbrev pub fresh : List ℕ

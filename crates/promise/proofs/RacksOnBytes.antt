@@ -1,11 +1,10 @@
 -- The steps of racks on the bytes of a good hall: offer, prepare, fast, blank.
 use Prim.Native.Nat.{ℕ, _+_, _<_}
-use mathlib.Core.Path.{_≡_, refl, sym, ap, _∙_}
+use mathlib.Core.Path.{_≡_, refl, ap}
 use mathlib.Core.Bool.{Bool, true, cond}
 use mathlib.Core.Logic.{inl}
 use mathlib.Core.List.{List}
 use Rattle.below.specs.Refusals.{granted, wrongMessage}
-use Rattle.pages.specs.Lines.{readingInRange}
 use Rattle.rounds.specs.declared.setup.Setup.{Setup}
 use Rattle.records.specs.declared.messages.Propose.{Propose}
 use Rattle.records.specs.declared.messages.TwoS.{TwoS}
@@ -15,25 +14,24 @@ use Rattle.fields.proofs.Fitted.{Any}
 use Rattle.blocks.specs.Kinds.{encode}
 use Rattle.blocks.proofs.Ranges.{setup-fits}
 use Rattle.message_blocks.specs.Messages as Sent
-use Rattle.message_blocks.proofs.Theorems.{Lined}
 use Rattle.row_blocks.specs.Rows as Rows
 use Rattle.row_blocks.proofs.Theorems.{rack-kept}
 use Rattle.racks.specs.Steps.{offerOf, prepareOf, fastOf, blankOf}
 use Rattle.racks.proofs.RulesKept.{offer-keeps, prepare-keeps, fast-keeps, blank-keeps}
 use Rattle.acts.specs.declared.step.Step.{Step}
-use Rattle.acts.specs.Acts.{Act, refused, isA, bodyOf, agentOf, sending, silent, offerAct, prepareAct, fastAct, blankAct, actOf}
+use Rattle.acts.specs.Acts.{refused, bodyOf, agentOf, sending, silent, offerAct, prepareAct, fastAct, blankAct, actOf}
 use Rattle.hall.specs.Halls.{racksAt, messagesAt, blockAt}
-use Rattle.hall.specs.Steps.{rowsAt, agentsFor, numbersInRange, granting}
+use Rattle.hall.specs.Steps.{rowsAt, agentsFor, numbersInRange}
 use Rattle.safety.proofs.TrueMessages.{propose, twoS, twoA}
 use Rattle.safety.proofs.Moved.{rack}
 use Rattle.safety.proofs.StepsKeep as Grants
-use Rattle.safety.proofs.StepsKeep.{Only, Nothing}
+use Rattle.safety.proofs.PagesChange.{rack-apart}
 use Rattle.promise.proofs.Cells.{length-block}
 use Rattle.promise.proofs.GoodBlocks.{stampFor, Good, good-is, good-rules}
 use Rattle.promise.proofs.GoodHalls.{GoodHall}
 use Rattle.promise.proofs.HallNumbers.{HallGranted, named-agent, named-number}
 use Rattle.promise.proofs.OneStep.{rack-row, propose-post, two-s-post, two-a-post, silent-done, sending-done, posting-done}
-use Rattle.promise.proofs.Stepped.{stepOf, Stepped, rack-apart, by-other, handed}
+use Rattle.promise.proofs.Stepped.{stepOf, Stepped, by-other, handed}
 use native.Mathlib.Omega.{arith}
 
 module _ {instance : ℕ} {s : Setup} {count : ℕ} {hall : List ℕ} (g : GoodHall instance s count hall) (a j n c cf v : ℕ) where

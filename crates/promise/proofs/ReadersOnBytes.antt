@@ -22,7 +22,7 @@ use Rattle.message_blocks.specs.Messages as Sent
 use Rattle.message_blocks.proofs.Theorems.{Lined}
 use Rattle.row_blocks.specs.Rows as Rows
 use Rattle.row_blocks.proofs.Theorems.{reader-kept, ReaderShaped}
-use Rattle.readers.specs.Notes.{noteVoteRow, noteVoteOf, noteBlankRow, noteBlankOf}
+use Rattle.readers.specs.Notes.{noteVoteOf, noteBlankRow, noteBlankOf}
 use Rattle.readers.specs.Counting.{countedOf}
 use Rattle.readers.proofs.GrantedNotes.{note-vote-granted, note-vote-held, note-blank-granted}
 use Rattle.readers.proofs.LearntLines.{learn-granted}
@@ -36,6 +36,7 @@ use Rattle.hall.specs.Steps.{rowsAt, agentsFor, granting}
 use Rattle.safety.proofs.TrueMessages.{twoA, twoB}
 use Rattle.safety.proofs.Moved.{reader}
 use Rattle.safety.proofs.StepsKeep as Grants
+use Rattle.safety.proofs.PagesChange.{note-vote-page, note-blank-page}
 use Rattle.promise.proofs.GoodBlocks.{stampFor, good-agent, good-rules}
 use Rattle.promise.proofs.GoodHalls.{GoodHall}
 use Rattle.promise.proofs.HallNumbers.{HallGranted, named-agent, named-number}
@@ -63,14 +64,6 @@ learn-lined : (s : Setup) (r : ReaderRow) (round : Round) → HeldLined r → co
 unfolding heldAt
 learn-lined s r round h e b l =
     ap (λ (x : ReaderRow). length (heldAt x b .page .lines)) (learn-granted s r round _ (counted-learns s r round) e .row-is) ∙ h b l
-
-note-vote-page : (r : ReaderRow) (b : ℕ) (m : TwoB) → noteVoteOf r b m .refusal ≡ granted → noteVoteOf r b m .row .page ≡ r .page
-unfolding noteVoteRow
-note-vote-page r b m h = ap (λ (x : ReaderRow). x .page) (note-vote-granted r b m h .row-is)
-
-note-blank-page : (r : ReaderRow) (k : ℕ) (m : TwoA) → noteBlankOf r k m .refusal ≡ granted → noteBlankOf r k m .row .page ≡ r .page
-unfolding noteBlankRow
-note-blank-page r k m h = ap (λ (x : ReaderRow). x .page) (note-blank-granted r k m h .row-is)
 
 module _ {instance : ℕ} {s : Setup} {count : ℕ} {hall : List ℕ} (g : GoodHall instance s count hall) (a j n c cf v : ℕ) where
   abbrev own : ReaderRow

@@ -1,12 +1,12 @@
 -- What is shown of each of the thirteen on a good hall: the hall is good again, and its rows and messages made a granted step.
 use Prim.Native.Nat.{ℕ, _+_, _*_, _<_}
 use lib.ListN.{getD}
-use native.Mathlib.Omega.{arith}
 use native.Mathlib.Decide.{ℕ-discrete}
 use mathlib.Core.Path.{_≡_, sym, ap, subst, _∙_}
 use mathlib.Core.Logic.{_⊎_, _≢_}
-use mathlib.Core.Bool.{true}
-use mathlib.Core.List.{List}
+use lib.Dec.{eqb}
+use mathlib.Core.Bool.{true, cond}
+use mathlib.Core.List.{List, [], _∷_}
 use Rattle.below.specs.Refusals.{granted}
 use Rattle.below.proofs.Rows.{row-at}
 use Rattle.rounds.specs.declared.setup.Setup.{Setup}
@@ -17,11 +17,13 @@ use Rattle.acts.specs.declared.step.Step.{Step}
 use Rattle.acts.specs.Acts.{Act, isA, bodyOf, agentOf, onRow, onBoth}
 use Rattle.hall.specs.Halls.{messagesAt, blockAt}
 use Rattle.hall.specs.Steps.{granting}
+use Rattle.history.specs.History.{Offer}
 use Rattle.safety.proofs.TrueMessages.{Message}
-use Rattle.safety.proofs.Moved.{Agent, coordinator, box, rack, reader}
+use Rattle.safety.proofs.Moved.{Agent, rack, reader}
 use Rattle.safety.proofs.Views.{View, Changes}
 use Rattle.safety.proofs.StepsKeep.{Grants}
-use Rattle.promise.specs.Runs.{pageOf, LearntBy, countAfter, offersOf}
+use Rattle.safety.proofs.PagesChange.{reader-apart}
+use Rattle.promise.specs.Runs.{pageOf, LearntBy, sends}
 use Rattle.promise.proofs.GoodBlocks.{stampFor, Good, of-kind}
 use Rattle.promise.proofs.GoodHalls.{GoodHall, viewOf}
 use Rattle.promise.proofs.HallNumbers.{actIn, HallGranted}
@@ -29,6 +31,13 @@ use Rattle.promise.proofs.OneStep.{PostKind, on-row, on-both}
 
 abbrev pub stepOf : ℕ → ℕ → ℕ → ℕ → ℕ → ℕ → ℕ → Step
 stepOf code a j n c cf v = record { code = code; agent = a; message = j; n = n; c = c; cf = cf; reading = v }
+
+-- the message count after a granted step, and what it offers: its reading, where it is an offer
+abbrev pub countAfter : Step → ℕ → ℕ
+countAfter x count = cond (sends (x .code)) (count + 1) count
+
+abbrev pub offersOf : Step → List Offer
+offersOf x = cond (eqb (x .code) 1) (record { rack = x .agent; reading = record { 0 = x .reading } } ∷ []) []
 
 -- a reader's page after a step: as it was, or learnt
 abbrev pub PageStep : Setup → List ℕ → List ℕ → Step → ℕ → Type 0
@@ -40,18 +49,6 @@ pub record Stepped (instance : ℕ) (s : Setup) (count : ℕ) (hall : List ℕ) 
   pub pages : (i : ℕ) → i < s .readers → PageStep s hall (granting hall x) x i
 
 -- the steps of other agents leave a reader's page
-pub rack-apart : (a i : ℕ) → rack a ≢ reader i
-rack-apart a i e = let z : _≡_ {A = ℕ} 0 1 = cc in omega arith
-
-pub box-apart : (a i : ℕ) → box a ≢ reader i
-box-apart a i e = let z : _≡_ {A = ℕ} 0 1 = cc in omega arith
-
-pub coordinator-apart : (a i : ℕ) → coordinator a ≢ reader i
-coordinator-apart a i e = let z : _≡_ {A = ℕ} 0 1 = cc in omega arith
-
-reader-apart : (a i : ℕ) → i ≢ a → reader a ≢ reader i
-reader-apart a i n e = n (cc)
-
 module _ {s : Setup} {New : Message → Type 0} {hall hall′ : View} where
   pub by-other : {who : Agent} → Changes s who New hall hall′ → (i : ℕ) → i < s .readers → who ≢ reader i → hall′ .readers i .page ≡ hall .readers i .page
   by-other d i l n = ap (λ (r : ReaderRow). r .page) (d .readers i l n)

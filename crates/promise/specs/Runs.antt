@@ -19,7 +19,6 @@ use Rattle.acts.specs.declared.step.Step.{Step}
 use Rattle.acts.specs.Acts.{bodyOf}
 use Rattle.hall.specs.Halls.{readersAt, blockAt}
 use Rattle.hall.specs.Steps.{hallRefusal, hallAfter}
-use Rattle.history.specs.History.{Offer}
 
 -- the hall after steps, one after the other
 unfoldable pub runHall : List Step → List ℕ → List ℕ
@@ -64,10 +63,3 @@ sends code = oneTo 3 code || (eqb code 5 || (leb 7 code && leb code 10))
 unfoldable pub sentBy : List Step → List ℕ → ℕ
 sentBy [] hall = 0
 sentBy (x ∷ later) hall = cond (eqb (hallRefusal hall x) granted && sends (x .code)) 1 0 + sentBy later (hallAfter hall x)
-
--- the message count after a granted step, and what it offers: its reading, where it is an offer
-abbrev pub countAfter : Step → ℕ → ℕ
-countAfter x count = cond (sends (x .code)) (count + 1) count
-
-abbrev pub offersOf : Step → List Offer
-offersOf x = cond (eqb (x .code) 1) (record { rack = x .agent; reading = record { 0 = x .reading } } ∷ []) []

@@ -24,11 +24,11 @@ use Rattle.safety.proofs.Moved.{Agent, coordinator, box, rack, reader}
 use Rattle.safety.proofs.Views.{View, Changes}
 use Rattle.safety.proofs.StepsKeep.{Grants, offer, start, join, hear, opening, prepare, fast, blank, takePage, takeReading, noteVote, noteBlank, learn}
 
-note-vote-page : (r : ReaderRow) (b : ℕ) (m : TwoB) → noteVoteOf r b m .refusal ≡ granted → noteVoteOf r b m .row .page ≡ r .page
+pub note-vote-page : (r : ReaderRow) (b : ℕ) (m : TwoB) → noteVoteOf r b m .refusal ≡ granted → noteVoteOf r b m .row .page ≡ r .page
 unfolding noteVoteRow
 note-vote-page r b m h = ap (λ (x : ReaderRow). x .page) (note-vote-granted r b m h .row-is)
 
-note-blank-page : (r : ReaderRow) (k : ℕ) (m : TwoA) → noteBlankOf r k m .refusal ≡ granted → noteBlankOf r k m .row .page ≡ r .page
+pub note-blank-page : (r : ReaderRow) (k : ℕ) (m : TwoA) → noteBlankOf r k m .refusal ≡ granted → noteBlankOf r k m .row .page ≡ r .page
 unfolding noteBlankRow
 note-blank-page r k m h = ap (λ (x : ReaderRow). x .page) (note-blank-granted r k m h .row-is)
 
@@ -47,16 +47,16 @@ learn-gains s r round (allNil among y w j e) = prefix-of-refl (r .page)
 learn-gains s r round (learnt among y w j e) = j .above .own
 
 -- the sorts of agents are apart
-coordinator-apart : (c i : ℕ) → coordinator c ≢ reader i
+pub coordinator-apart : (c i : ℕ) → coordinator c ≢ reader i
 coordinator-apart c i e = let z : _≡_ {A = ℕ} 0 1 = cc in omega arith
 
-box-apart : (b i : ℕ) → box b ≢ reader i
+pub box-apart : (b i : ℕ) → box b ≢ reader i
 box-apart b i e = let z : _≡_ {A = ℕ} 0 1 = cc in omega arith
 
-rack-apart : (k i : ℕ) → rack k ≢ reader i
+pub rack-apart : (k i : ℕ) → rack k ≢ reader i
 rack-apart k i e = let z : _≡_ {A = ℕ} 0 1 = cc in omega arith
 
-reader-apart : (j i : ℕ) → i ≢ j → reader j ≢ reader i
+pub reader-apart : (j i : ℕ) → i ≢ j → reader j ≢ reader i
 reader-apart j i n e = n (cc)
 
 -- the earlier page is a prefix of the later one
