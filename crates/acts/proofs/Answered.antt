@@ -4,21 +4,20 @@ use Prim.Native.Nat.{ℕ}
 use lib.Dec.{eqb}
 use lib.ListN.{length}
 use mathlib.Core.Path.{_≡_, refl, sym, ap, _∙_}
-use mathlib.Core.Bool.{true, false, _&&_, _||_}
+use mathlib.Core.Bool.{true, false}
 use mathlib.Core.List.{List}
-use Rattle.below.specs.Refusals.{unless, granted, wrongMessage}
+use Rattle.below.specs.Refusals.{granted}
 use Rattle.records.specs.declared.stamp.Stamp.{Stamp}
 use Rattle.blocks.specs.Frame.{blockSize}
 use Rattle.blocks.specs.Kinds.{Kind, encode}
 use Rattle.blocks.specs.Answers.{Reads}
-use Rattle.kinds.specs.Known.{known}
 use Rattle.acts.specs.Acts.{Act, onRow, onBoth, sending, silent}
-use Rattle.acts.specs.Named.{badBlock, otherHall, stampOf, sameHall, ownRow, bothRefusal, rowRefusal}
+use Rattle.acts.specs.Named.{stampOf, bothRefusal, rowRefusal, rowFound, bothFound}
 use Rattle.acts.specs.Answers.{Acts, Keeps}
 use Rattle.acts.proofs.Familiar.{Familiar}
 use Rattle.acts.proofs.Ways.{row-unnamed, row-unfit, row-done, row-left, row-misfit, row-kept, both-unnamed, both-unfit, both-done, both-left, both-misfit, both-kept}
 
-module _ {R M S : Type 0} (kr : Kind R) (km : Kind M) (ks : Kind S) (fr : Familiar kr) (fm : Familiar km) (X : Type 0) (number : X → ℕ) (after : X → R) (told : X → S) (step : Stamp → Stamp → R → M → X) (hall : Stamp) (late : ℕ) {row message : List ℕ} {rn mn no : ℕ} {rs ms : Stamp} {r : R} {m : M} (l : length row ≡ blockSize) (l' : length message ≡ blockSize) (p : Reads kr row rn rs r) (q : Reads km message mn ms m) (found : no ≡ unless (eqb rn granted || known row) badBlock (unless (eqb late granted) late (unless (eqb mn granted || known message) badBlock (unless (ownRow hall (stampOf row)) otherHall (unless (sameHall hall (stampOf message)) otherHall (unless (eqb rn granted && eqb mn granted) wrongMessage granted)))))) where
+module _ {R M S : Type 0} (kr : Kind R) (km : Kind M) (ks : Kind S) (fr : Familiar kr) (fm : Familiar km) (X : Type 0) (number : X → ℕ) (after : X → R) (told : X → S) (step : Stamp → Stamp → R → M → X) (hall : Stamp) (late : ℕ) {row message : List ℕ} {rn mn no : ℕ} {rs ms : Stamp} {r : R} {m : M} (l : length row ≡ blockSize) (l' : length message ≡ blockSize) (p : Reads kr row rn rs r) (q : Reads km message mn ms m) (found : no ≡ bothFound hall late row (eqb rn granted) message (eqb mn granted)) where
   abbrev both-sends-own : Stamp → Stamp → R → M → Act
   both-sends-own s t r m = sending kr ks s (number (step s t r m)) (after (step s t r m)) (told (step s t r m))
 
@@ -34,7 +33,7 @@ module _ {R M S : Type 0} (kr : Kind R) (km : Kind M) (ks : Kind S) (fr : Famili
       Acts (bothRefusal hall late row message (onBoth kr km row message (both-sends-own (stampOf row) (stampOf message)) .refusal)) (onBoth kr km row message (both-sends-own (stampOf row) (stampOf message))) granted true a s a' s'
   both-sends-yes z e g u v = both-done kr km fr fm both-sends-own hall late l l' p q found z (sym (ap number e) ∙ g) refl (u ∙ ap (λ (y : X). encode kr rs (after y)) e) (v ∙ ap (λ (y : X). encode ks rs (told y)) e)
 
-module _ {R M : Type 0} (kr : Kind R) (km : Kind M) (fr : Familiar kr) (fm : Familiar km) (X : Type 0) (number : X → ℕ) (after : X → R) (step : Stamp → Stamp → R → M → X) (hall : Stamp) (late : ℕ) {row message : List ℕ} {rn mn no : ℕ} {rs ms : Stamp} {r : R} {m : M} (l : length row ≡ blockSize) (l' : length message ≡ blockSize) (p : Reads kr row rn rs r) (q : Reads km message mn ms m) (found : no ≡ unless (eqb rn granted || known row) badBlock (unless (eqb late granted) late (unless (eqb mn granted || known message) badBlock (unless (ownRow hall (stampOf row)) otherHall (unless (sameHall hall (stampOf message)) otherHall (unless (eqb rn granted && eqb mn granted) wrongMessage granted)))))) where
+module _ {R M : Type 0} (kr : Kind R) (km : Kind M) (fr : Familiar kr) (fm : Familiar km) (X : Type 0) (number : X → ℕ) (after : X → R) (step : Stamp → Stamp → R → M → X) (hall : Stamp) (late : ℕ) {row message : List ℕ} {rn mn no : ℕ} {rs ms : Stamp} {r : R} {m : M} (l : length row ≡ blockSize) (l' : length message ≡ blockSize) (p : Reads kr row rn rs r) (q : Reads km message mn ms m) (found : no ≡ bothFound hall late row (eqb rn granted) message (eqb mn granted)) where
   abbrev both-keeps-own : Stamp → Stamp → R → M → Act
   both-keeps-own s t r m = silent kr s (number (step s t r m)) (after (step s t r m))
 
@@ -50,7 +49,7 @@ module _ {R M : Type 0} (kr : Kind R) (km : Kind M) (fr : Familiar kr) (fm : Fam
       Keeps (bothRefusal hall late row message (onBoth kr km row message (both-keeps-own (stampOf row) (stampOf message)) .refusal)) (onBoth kr km row message (both-keeps-own (stampOf row) (stampOf message))) granted a a'
   both-keeps-yes z e g u = both-kept kr km fr fm both-keeps-own hall late l l' p q found z (sym (ap number e) ∙ g) (u ∙ ap (λ (y : X). encode kr rs (after y)) e)
 
-module _ {R S : Type 0} (kr : Kind R) (ks : Kind S) (fr : Familiar kr) (X : Type 0) (number : X → ℕ) (after : X → R) (told : X → S) (step : Stamp → R → X) (hall : Stamp) (late : ℕ) {row : List ℕ} {rn no : ℕ} {rs : Stamp} {r : R} (l : length row ≡ blockSize) (p : Reads kr row rn rs r) (found : no ≡ unless (eqb rn granted || known row) badBlock (unless (eqb late granted) late (unless (ownRow hall (stampOf row)) otherHall (unless (eqb rn granted) wrongMessage granted)))) where
+module _ {R S : Type 0} (kr : Kind R) (ks : Kind S) (fr : Familiar kr) (X : Type 0) (number : X → ℕ) (after : X → R) (told : X → S) (step : Stamp → R → X) (hall : Stamp) (late : ℕ) {row : List ℕ} {rn no : ℕ} {rs : Stamp} {r : R} (l : length row ≡ blockSize) (p : Reads kr row rn rs r) (found : no ≡ rowFound hall late row (eqb rn granted)) where
   abbrev row-sends-own : Stamp → R → Act
   row-sends-own s r = sending kr ks s (number (step s r)) (after (step s r)) (told (step s r))
 
@@ -66,7 +65,7 @@ module _ {R S : Type 0} (kr : Kind R) (ks : Kind S) (fr : Familiar kr) (X : Type
       Acts (rowRefusal hall late row (onRow kr row (row-sends-own (stampOf row)) .refusal)) (onRow kr row (row-sends-own (stampOf row))) granted true a s a' s'
   row-sends-yes z e g u v = row-done kr fr row-sends-own hall late l p found z (sym (ap number e) ∙ g) refl (u ∙ ap (λ (y : X). encode kr rs (after y)) e) (v ∙ ap (λ (y : X). encode ks rs (told y)) e)
 
-module _ {R : Type 0} (kr : Kind R) (fr : Familiar kr) (X : Type 0) (number : X → ℕ) (after : X → R) (step : Stamp → R → X) (hall : Stamp) (late : ℕ) {row : List ℕ} {rn no : ℕ} {rs : Stamp} {r : R} (l : length row ≡ blockSize) (p : Reads kr row rn rs r) (found : no ≡ unless (eqb rn granted || known row) badBlock (unless (eqb late granted) late (unless (ownRow hall (stampOf row)) otherHall (unless (eqb rn granted) wrongMessage granted)))) where
+module _ {R : Type 0} (kr : Kind R) (fr : Familiar kr) (X : Type 0) (number : X → ℕ) (after : X → R) (step : Stamp → R → X) (hall : Stamp) (late : ℕ) {row : List ℕ} {rn no : ℕ} {rs : Stamp} {r : R} (l : length row ≡ blockSize) (p : Reads kr row rn rs r) (found : no ≡ rowFound hall late row (eqb rn granted)) where
   abbrev row-keeps-own : Stamp → R → Act
   row-keeps-own s r = silent kr s (number (step s r)) (after (step s r))
 

@@ -1,11 +1,10 @@
 -- A good block of whatever kind is good for a kind exactly if its third byte is that kind's number; so a block that was read as
 -- the kind that a step names needs no second look.
 use Prim.Native.Nat.{ℕ}
-use lib.Dec.{eqb}
 use mathlib.Core.Path.{_≡_, refl, sym, ap, _∙_}
 use mathlib.Core.Bool.{Bool, true, false}
 use mathlib.Core.List.{List}
-use borrow.Author.Tests.{eqb-true, eq-eqb, eqb-false}
+use borrow.Author.Tests.{eqb-true, eqb-false}
 use Rattle.below.proofs.Tests.{not-true-false}
 use Rattle.words.specs.Bytes.{byte}
 use Rattle.blocks.specs.Kinds.{Kind, good}

@@ -2,10 +2,10 @@
 use Prim.Native.Nat.{ℕ}
 use lib.Dec.{eqb}
 use lib.ListN.{length}
-use mathlib.Core.Path.{_≡_, refl, sym, ap, subst, _∙_}
+use mathlib.Core.Path.{_≡_, refl, sym, ap, _∙_}
 use mathlib.Core.Bool.{Bool, true, false, cond, _&&_, _||_, false≢true}
 use mathlib.Core.List.{List, []}
-use borrow.Author.Tests.{eqb-true, eq-eqb, ne-eqb}
+use borrow.Author.Tests.{eq-eqb, ne-eqb}
 use Rattle.below.specs.Refusals.{unless, granted, wrongMessage}
 use Rattle.below.proofs.Tests.{and-left, and-right}
 use Rattle.records.specs.declared.stamp.Stamp.{Stamp}
@@ -14,17 +14,10 @@ use Rattle.blocks.specs.Kinds.{Kind, encode, decode, good}
 use Rattle.blocks.specs.Answers.{answer, Reads}
 use Rattle.blocks.proofs.Judged.{Proper, encode-decode}
 use Rattle.kinds.specs.Known.{known, Told}
-use Rattle.acts.specs.Acts.{Act, refused, isA, bodyOf, onRow, onBoth, sending, silent}
-use Rattle.acts.specs.Named.{badBlock, otherHall, isGood, stampOf, sameHall, ownRow, bothRefusal, rowRefusal}
+use Rattle.acts.specs.Acts.{Act, refused, isA, bodyOf, onRow, onBoth}
+use Rattle.acts.specs.Named.{badBlock, otherHall, stampOf, sameHall, ownRow, rowTests, bothTests, bothRefusal, rowRefusal, rowFound, bothFound}
 use Rattle.acts.specs.Answers.{Acts, Keeps}
 use Rattle.acts.proofs.Familiar.{Familiar}
-
--- the refusals for the blocks, by the values of their tests
-abbrev rowTests : (r l h : Bool) → ℕ → ℕ → ℕ
-rowTests r l h late own = unless r badBlock (unless l late (unless h otherHall own))
-
-abbrev bothTests : (r l m h g : Bool) → ℕ → ℕ → ℕ
-bothTests r l m h g late own = unless r badBlock (unless l late (unless m badBlock (unless h otherHall (unless g otherHall own))))
 
 -- the act's own refusal stands where the code found none before it
 row-found : (r l h right is : Bool) (late own : ℕ) → eqb late granted ≡ l → (r ≡ true → right ≡ is) →
@@ -137,7 +130,7 @@ both-right true false m h g right late e z = absurd (false≢true (sym e ∙ ap 
 both-right false l m h g right late e z = let c : _≡_ {A = ℕ} badBlock granted = z in absurd (false≢true (sym (ap (λ (n : ℕ). eqb n 2) c)))
 
 -- A step that names a row alone: `own` is what it makes of the row's stamp and body.
-module _ {R : Type 0} (kr : Kind R) (fr : Familiar kr) (own : Stamp → R → Act) (hall : Stamp) (late : ℕ) {row : List ℕ} {rn no : ℕ} {rs : Stamp} {r : R} (l : length row ≡ blockSize) (p : Reads kr row rn rs r) (found : no ≡ rowTests (eqb rn granted || known row) (eqb late granted) (ownRow hall (stampOf row)) late (unless (eqb rn granted) wrongMessage granted)) where
+module _ {R : Type 0} (kr : Kind R) (fr : Familiar kr) (own : Stamp → R → Act) (hall : Stamp) (late : ℕ) {row : List ℕ} {rn no : ℕ} {rs : Stamp} {r : R} (l : length row ≡ blockSize) (p : Reads kr row rn rs r) (found : no ≡ rowFound hall late row (eqb rn granted)) where
   abbrev rowAct : Act
   rowAct = onRow kr row (own (stampOf row))
 
@@ -195,7 +188,7 @@ module _ {R : Type 0} (kr : Kind R) (fr : Familiar kr) (own : Stamp → R → Ac
   row-kept z e u = rests (row-granted z ∙ e) (u ∙ sym (ap (λ (x : Act). x .row) (row-own z)))
 
 -- A step that names a row and a message: of both the stamp and the body.
-module _ {R M : Type 0} (kr : Kind R) (km : Kind M) (fr : Familiar kr) (fm : Familiar km) (own : Stamp → Stamp → R → M → Act) (hall : Stamp) (late : ℕ) {row message : List ℕ} {rn mn no : ℕ} {rs ms : Stamp} {r : R} {m : M} (l : length row ≡ blockSize) (l' : length message ≡ blockSize) (p : Reads kr row rn rs r) (q : Reads km message mn ms m) (found : no ≡ bothTests (eqb rn granted || known row) (eqb late granted) (eqb mn granted || known message) (ownRow hall (stampOf row)) (sameHall hall (stampOf message)) late (unless (eqb rn granted && eqb mn granted) wrongMessage granted)) where
+module _ {R M : Type 0} (kr : Kind R) (km : Kind M) (fr : Familiar kr) (fm : Familiar km) (own : Stamp → Stamp → R → M → Act) (hall : Stamp) (late : ℕ) {row message : List ℕ} {rn mn no : ℕ} {rs ms : Stamp} {r : R} {m : M} (l : length row ≡ blockSize) (l' : length message ≡ blockSize) (p : Reads kr row rn rs r) (q : Reads km message mn ms m) (found : no ≡ bothFound hall late row (eqb rn granted) message (eqb mn granted)) where
   abbrev bothAct : Act
   bothAct = onBoth kr km row message (own (stampOf row) (stampOf message))
 

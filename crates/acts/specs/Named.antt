@@ -3,7 +3,7 @@ use Prim.Native.Nat.{ℕ}
 use lib.Dec.{leb, eqb}
 use mathlib.Core.Bool.{Bool, not, _&&_, _||_}
 use mathlib.Core.List.{List}
-use Rattle.below.specs.Refusals.{unless, granted}
+use Rattle.below.specs.Refusals.{unless, granted, wrongMessage}
 use Rattle.rounds.specs.Setups.{sameSetup}
 use Rattle.records.specs.declared.stamp.Stamp.{Stamp}
 use Rattle.blocks.specs.Frame.{stampAs}
@@ -51,14 +51,28 @@ namedRefusal hall late x row message =
     (unless (ownRow hall (stampOf row)) otherHall
     (unless (not (names (x .code)) || sameHall hall (stampOf message)) otherHall (ownAct x row message .refusal)))))
 
--- the same for a step that is known to name a row and a message, or a row alone; `own` is what the act then says
-unfoldable pub bothRefusal : Stamp → ℕ → List ℕ → List ℕ → ℕ → ℕ
-bothRefusal hall late row message own =
-    unless (isGood row) badBlock
-    (unless (eqb late granted) late
-    (unless (isGood message) badBlock
-    (unless (ownRow hall (stampOf row)) otherHall (unless (sameHall hall (stampOf message)) otherHall own))))
+-- the same for a step that is known to name a row alone, or a row and a message: by the values of the tests, and of the blocks;
+-- `own` is what the act then says
+abbrev pub rowTests : (good range place : Bool) → ℕ → ℕ → ℕ
+rowTests good range place late own = unless good badBlock (unless range late (unless place otherHall own))
+
+abbrev pub bothTests : (good range heard place sender : Bool) → ℕ → ℕ → ℕ
+bothTests good range heard place sender late own =
+    unless good badBlock (unless range late (unless heard badBlock (unless place otherHall (unless sender otherHall own))))
 
 unfoldable pub rowRefusal : Stamp → ℕ → List ℕ → ℕ → ℕ
-rowRefusal hall late row own =
-    unless (isGood row) badBlock (unless (eqb late granted) late (unless (ownRow hall (stampOf row)) otherHall own))
+rowRefusal hall late row own = rowTests (isGood row) (eqb late granted) (ownRow hall (stampOf row)) late own
+
+unfoldable pub bothRefusal : Stamp → ℕ → List ℕ → List ℕ → ℕ → ℕ
+bothRefusal hall late row message own =
+    bothTests (isGood row) (eqb late granted) (isGood message) (ownRow hall (stampOf row)) (sameHall hall (stampOf message)) late own
+
+-- what the code finds before it looks at the step: whether each block is good for the kind that the step names is known
+abbrev pub rowFound : Stamp → ℕ → List ℕ → Bool → ℕ
+rowFound hall late row right =
+    rowTests (right || known row) (eqb late granted) (ownRow hall (stampOf row)) late (unless right wrongMessage granted)
+
+abbrev pub bothFound : Stamp → ℕ → List ℕ → Bool → List ℕ → Bool → ℕ
+bothFound hall late row right message meant =
+    bothTests (right || known row) (eqb late granted) (meant || known message) (ownRow hall (stampOf row)) (sameHall hall (stampOf message)) late
+    (unless (right && meant) wrongMessage granted)

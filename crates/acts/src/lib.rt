@@ -17,18 +17,5 @@ mod step;
 
 pub use acted::Acted;
 pub use acts::act;
-pub use box_acts::join;
-pub use box_acts::take_page;
-pub use box_acts::take_reading;
-pub use coordinator_acts::hear;
-pub use coordinator_acts::open;
-pub use coordinator_acts::start;
 pub use numbers::Numbers;
-pub use rack_acts::blank;
-pub use rack_acts::fast;
-pub use rack_acts::offer;
-pub use rack_acts::prepare;
-pub use reader_acts::learn;
-pub use reader_acts::note_blank;
-pub use reader_acts::note_vote;
 pub use step::Step;

@@ -5,13 +5,11 @@
 // Only a block that was not is looked at again, for the difference between a bad one and one of
 // another kind.
 ghost use mathlib.Core.Path.{_≡_};
-ghost use mathlib.Core.Bool.{_&&_, _||_};
-ghost use lib.Dec.{eqb};
+ghost use mathlib.Core.Bool.{_||_};
 ghost use lib.ListN.{length};
-ghost use Rattle.below.specs.Refusals.{unless, granted, wrongMessage};
 ghost use Rattle.blocks.specs.Frame.{blockSize};
 ghost use Rattle.kinds.specs.Known.{known};
-ghost use Rattle.acts.specs.Named.{badBlock, otherHall, stampOf, sameHall, ownRow};
+ghost use Rattle.acts.specs.Named.{sameHall, ownRow, rowFound, bothFound};
 use below::GRANTED;
 use below::WRONG_MESSAGE;
 use below::both;
@@ -53,7 +51,7 @@ fn own_row(hall: Stamp, stamp: Stamp) -> bool
 // A step that names a row alone.
 pub fn named_row(hall: Stamp, late: u8, row: &[u8], right: bool) -> u8
     requires { ⌜ length (now row) ≡ blockSize ⌝ }
-    ensures { λ r. ⌜ r ≡ unless (right || known (now (row .entry))) badBlock (unless (eqb late granted) late (unless (ownRow hall (stampOf (now (row .entry)))) otherHall (unless right wrongMessage granted))) ⌝ }
+    ensures { λ r. ⌜ r ≡ rowFound hall late (now (row .entry)) right ⌝ }
 {
     let kind = unless(right, WRONG_MESSAGE, GRANTED);
     let place = unless(own_row(hall, read_stamp(row)), OTHER_HALL, kind);
@@ -64,7 +62,7 @@ pub fn named_row(hall: Stamp, late: u8, row: &[u8], right: bool) -> u8
 // A step that names a row and a message.
 pub fn named_both(hall: Stamp, late: u8, row: &[u8], right: bool, message: &[u8], meant: bool) -> u8
     requires { ⌜ (length (now row) ≡ blockSize) × (length (now message) ≡ blockSize) ⌝ }
-    ensures { λ r. ⌜ r ≡ unless (right || known (now (row .entry))) badBlock (unless (eqb late granted) late (unless (meant || known (now (message .entry))) badBlock (unless (ownRow hall (stampOf (now (row .entry)))) otherHall (unless (sameHall hall (stampOf (now (message .entry)))) otherHall (unless (right && meant) wrongMessage granted))))) ⌝ }
+    ensures { λ r. ⌜ r ≡ bothFound hall late (now (row .entry)) right (now (message .entry)) meant ⌝ }
 {
     let kind = unless(both(right, meant), WRONG_MESSAGE, GRANTED);
     let sender = unless(same_hall(hall, read_stamp(message)), OTHER_HALL, kind);

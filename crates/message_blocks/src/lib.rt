@@ -2,8 +2,9 @@
 //
 // A reader takes any bytes, a writer any record and any bytes. Both answer 1 for a wrong length, then
 // 2 (a block that fails its check or rules, a record that breaks a rule), else 0; a refused writer
-// writes nothing, a refused reader gives the record of no bytes, all zero. A kind is one line of
-// specs/Messages.antt; what makes a block good is said once, in the crate blocks.
+// writes nothing, a refused reader gives the record of no bytes, all zero. `put_` is the writer without
+// its tests, for a record that is known to keep the rules. A kind is one line of specs/Messages.antt;
+// what makes a block good is said once, in the crate blocks.
 mod one_a;
 mod one_b;
 mod propose;
