@@ -1,13 +1,14 @@
 -- Laws of `count`, and that two sets of boxes which together count more than there are share one.
 use Prim.Native.Nat.{ℕ, zero, suc, _+_, _≤_, _<_}
 use native.Mathlib.Omega.{arith}
+use native.Mathlib.Decide.{decLt}
 use native.Mathlib.Nat.{le-antisymm}
 use native.Mathlib.Numerals.{add-one}
-use mathlib.Core.Path.{_≡_, refl, subst}
+use mathlib.Core.Path.{_≡_, refl, ap, subst, _∙_}
 use mathlib.Core.Bool.{Bool, true, false, cond}
 use mathlib.Core.Logic.{⊎-elim}
 use Rattle.below.specs.Below.{count}
-use Rattle.below.proofs.Tests.{decided, found-up}
+use Rattle.below.proofs.Tests.{decided, found-up, not-true-false}
 
 pub count-at-most : (n : ℕ) (f : ℕ → Bool) → count n f ≤ n
 unfolding count
@@ -60,6 +61,25 @@ counts-meet (suc n) f g h = go (counts-meet n f g) (f n) (g n) refl refl h
     go ih true false p q l = found-up (ih (omega arith))
     go ih false true p q l = found-up (ih (omega arith))
     go ih false false p q l = found-up (ih (omega arith))
+
+-- counts over slots of which only those below A pass are counts over A
+pub count-cut : (n A : ℕ) (f : ℕ → Bool) → A ≤ n → ((k : ℕ) → k < n → f k ≡ true → k < A) → count n f ≡ count A f
+unfolding count
+count-cut zero A f l h = ap (λ (m : ℕ). count m f) (zero-is A l)
+  where
+    zero-is : (A : ℕ) → A ≤ 0 → 0 ≡ A
+    zero-is A l = omega arith
+count-cut (suc n) A f l h = go (λ m. count-cut n A f m (λ k j. h k (omega arith))) (decLt n A)
+  where
+    go : (A ≤ n → count n f ≡ count A f) → Dec (n < A) → count (suc n) f ≡ count A f
+    go ih (yes m) = ap (λ (j : ℕ). count j f) (same m)
+      where
+        same : n < A → suc n ≡ A
+        same m = omega arith
+    go ih (no d) = rw (not-true-false (f n) (λ e. d (h n (omega arith) e))) (plus-none (count n f) ∙ ih (omega (arith, d)))
+      where
+        plus-none : (x : ℕ) → x + 0 ≡ x
+        plus-none x = omega arith
 
 -- The loop that counts: its invariant is `(k ≤ n) × (total ≡ count k f)`.
 pub count-start : (f : ℕ → Bool) → 0 ≡ count 0 f

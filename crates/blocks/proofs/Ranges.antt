@@ -40,7 +40,7 @@ up-to : (limit x : ℕ) → oneTo limit x ≡ true → x ≤ limit
 up-to limit x h = leb-true x limit (and-right (ltb 0 x) _ h)
 
 -- a set of racks is a byte
-some-small : (racks cf : ℕ) → racks ≤ 8 → someRacks racks cf ≡ true → cf < 256
+pub some-small : (racks cf : ℕ) → racks ≤ 8 → someRacks racks cf ≡ true → cf < 256
 some-small racks cf l h = let m : 2 ^ racks ≤ 256 = pow-mono l in let b : cf < 2 ^ racks = ltb-true cf (2 ^ racks) (and-right (ltb 0 cf) _ h) in omega arith
 
 pub setup-fits : (s : Setup) → setupInRange s ≡ true → SetupFits s

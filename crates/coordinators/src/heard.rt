@@ -1,11 +1,10 @@
 // What a coordinator heard, slot by slot: votes, clashes, the highest vrnd, how many.
 use below::both;
+use below::one_if;
 use records::BOXES;
 use records::CoordinatorRow;
 use records::Heard;
-ghost use Prim.Native.Nat.{_≤_};
 ghost use mathlib.Core.Path.{_≡_};
-ghost use mathlib.Core.Bool.{cond};
 ghost use Rattle.below.specs.Below.{any, count};
 ghost use Rattle.rounds.specs.Setups.{mostBoxes};
 ghost use Rattle.records.specs.Slots.{heardAt};
@@ -90,12 +89,6 @@ pub fn is_highest(row: CoordinatorRow, mine: Heard) -> bool
     } else {
         false
     }
-}
-
-fn one_if(hit: bool) -> u8
-    ensures { λ r. ⌜ (r ≡ cond hit 1 0) × (r ≤ 1) ⌝ }
-{
-    if hit { 1 } else { 0 }
 }
 
 // How many boxes were heard, with a vote or without.

@@ -1,3 +1,4 @@
 pub mod FreshBlocks
 pub mod SettingUp
+pub mod Cells
 pub mod Unique

@@ -1,22 +1,23 @@
--- The hall's step and the C step: the order of refusals, and every lent byte afterwards.
+-- The hall's step: the order of refusals, and every lent byte afterwards.
 use Prim.Native.Nat.{ℕ, _+_, _*_}
 use lib.Dec.{leb, ltb, eqb}
 use lib.ListN.{length}
-use mathlib.Core.Bool.{Bool, true, false, cond, not, _&&_, _||_}
+use mathlib.Core.Path.{_≡_}
+use mathlib.Core.Bool.{Bool, true, cond, not, _&&_, _||_}
 use mathlib.Core.List.{List}
 use Rattle.below.specs.Refusals.{unless, granted}
 use Rattle.pages.specs.Lines.{readingInRange}
 use Rattle.rounds.specs.declared.setup.Setup.{Setup}
-use Rattle.rounds.specs.Setups.{oneTo, someRacks, sameSetup}
+use Rattle.rounds.specs.Setups.{oneTo, someRacks}
 use Rattle.rounds.specs.Rounds.{roundOf, roundInRange, largestNumber}
 use Rattle.records.specs.declared.stamp.Stamp.{Stamp}
-use Rattle.words.specs.Bytes.{zeros, splice}
-use Rattle.blocks.specs.Frame.{blockSize, stampAs}
+use Rattle.words.specs.Bytes.{splice}
+use Rattle.blocks.specs.Frame.{blockSize}
 use Rattle.blocks.specs.Kinds.{encode, decode, good}
 use Rattle.row_blocks.specs.Rows.{head}
 use Rattle.acts.specs.declared.step.Step.{Step}
 use Rattle.acts.specs.Acts.{Act}
-use Rattle.acts.specs.Named.{badBlock, stampOf, names, ownAct, namedRefusal}
+use Rattle.acts.specs.Named.{badBlock, names, ownAct, namedRefusal}
 use Rattle.hall.specs.Halls.{wrongLength, outOfRange, hallSize, coordinatorsAt, boxesAt, racksAt, readersAt, messagesAt, blockAt}
 
 -- which sort of agent does a step: where its rows begin, and how many there are
@@ -82,8 +83,8 @@ postFull = 10
 abbrev pub mostMessages : ℕ
 mostMessages = 96
 
-abbrev pub fits : Act → ℕ → Bool
-fits act count = not (act .sends) || ltb count mostMessages
+abbrev pub fits : Bool → ℕ → Bool
+fits sends count = not sends || ltb count mostMessages
 
 -- Order in a hall step: 1, head block 2, 4, 11, row 2, message 2, 3, then 5 to 10 by number
 unfoldable pub hallRefusal : List ℕ → Step → ℕ
@@ -94,7 +95,7 @@ hallRefusal hall x =
     (unless (numbersInRange (headOf hall .setup) x) outOfRange
     (unless (eqb (namedRefusal (hallFor hall x) granted x (rowOf hall x) (messageOf hall x)) granted)
     (namedRefusal (hallFor hall x) granted x (rowOf hall x) (messageOf hall x))
-    (unless (fits (hallAct hall x) (countOf hall)) postFull granted)))))
+    (unless (fits (hallAct hall x .sends) (countOf hall)) postFull granted)))))
 
 -- a granted step changes only its row, at most one new message block and the head
 abbrev pub putBlock : ℕ → List ℕ → List ℕ → List ℕ
@@ -110,20 +111,7 @@ granting hall x = putBlock (rowPlace x) (hallAct hall x .row) (cond (hallAct hal
 unfoldable pub hallAfter : List ℕ → Step → List ℕ
 hallAfter hall x = cond (eqb (hallRefusal hall x) granted) (granting hall x) hall
 
--- The C step, on three separate lent buffers. Order there: 1, 4 (code only), row 2, 11 (step 2: n and cf only), message 2 (only for
--- a step that names a message), 3 (setup and instance), 5 to 9
-abbrev pub rangeRefusal : Setup → Step → ℕ
-rangeRefusal s x = unless (numbersInRange s x) outOfRange granted
-
-unfoldable pub boxRefusal : List ℕ → List ℕ → List ℕ → Step → ℕ
-boxRefusal row message sent x =
-    unless (eqb (length row) blockSize && eqb (length message) blockSize && eqb (length sent) blockSize) wrongLength
-    (unless (isCode (x .code)) noSuchStep (namedRefusal (stampOf row) (rangeRefusal (stampOf row .setup) x) x row message))
-
--- the row rewritten; the message sent, all zero where none is sent
-unfoldable pub boxRowAfter : List ℕ → List ℕ → List ℕ → Step → List ℕ
-boxRowAfter row message sent x = cond (eqb (boxRefusal row message sent x) granted) (ownAct x row message .row) row
-
-unfoldable pub boxSentAfter : List ℕ → List ℕ → List ℕ → Step → List ℕ
-boxSentAfter row message sent x =
-    cond (eqb (boxRefusal row message sent x) granted) (cond (ownAct x row message .sends) (ownAct x row message .sent) (zeros blockSize)) sent
+-- what the hall's step promises of its answer and of every lent byte
+pub record Steps (hall after : List ℕ) (x : Step) (answer : ℕ) : Type 0 where
+  pub answered : answer ≡ hallRefusal hall x
+  pub left : after ≡ hallAfter hall x

@@ -1,5 +1,5 @@
 -- The moves of voting boxes: a vote for the page of its round, and a vote for a reading.
-use Prim.Native.Nat.{ℕ, _≤_, _<_}
+use Prim.Native.Nat.{ℕ, _<_}
 use native.Mathlib.Omega.{arith}
 use mathlib.Core.Path.{_≡_, refl, sym, subst}
 use mathlib.Core.Bool.{true}
@@ -13,7 +13,7 @@ use Rattle.pages.specs.Racks.{has}
 use Rattle.pages.specs.Pages.{prefixOf}
 use Rattle.history.specs.History.{_∈_, free, fixed, History, Grows}
 use Rattle.history.specs.Sound.{FreeVote, Fits, Chain, Sound}
-use Rattle.history.specs.Moves.{vote, readingVote}
+use Rattle.history.specs.Moves.{mayVote, vote, readingVote}
 use Rattle.history.proofs.Lines.{prefix-same}
 use Rattle.history.proofs.Updates.{put₂-cases, put-raises}
 use Rattle.history.proofs.SoundAfter.{sound-after}
@@ -24,7 +24,7 @@ vote-cases : (H : History) (b r : ℕ) (p : Page) (Q : ℕ → ℕ → List Page
     Q c i (H .votes c i) → Q c i (vote H b r p .votes c i)
 vote-cases H b r p Q = put₂-cases Q (H .votes) b r (p ∷ H .votes b r)
 
-pub vote-grows : (H : History) (b r : ℕ) (p : Page) → H .ballot b ≤ r → Grows H (vote H b r p)
+pub vote-grows : (H : History) (b r : ℕ) (p : Page) → mayVote H b r → Grows H (vote H b r p)
 vote-grows H b r p l =
     record {
       ballot = put-raises (H .ballot) b r l;
@@ -36,7 +36,7 @@ vote-grows H b r p l =
     }
 
 -- a vote that fits its round and extends the box's earlier ones there
-vote-sound : {P A : ℕ} {H : History} (b r : ℕ) (p : Page) → H .ballot b ≤ r → Fits P (H .opened r) (λ k. H .said k r) p →
+vote-sound : {P A : ℕ} {H : History} (b r : ℕ) (p : Page) → mayVote H b r → Fits P (H .opened r) (λ k. H .said k r) p →
     ((q : Page) → q ∈ H .votes b r → prefixOf q p ≡ true) → Sound P A H → Sound P A (vote H b r p)
 vote-sound {P} {A} {H} b r p l f extends S =
     sound-after S (vote-grows H b r p l) (λ i. refl) (λ c i q. vote-cases H b r p (Right q) (right q) c i inl)
@@ -49,13 +49,13 @@ vote-sound {P} {A} {H} b r p l f extends S =
     right q v = ⊎-elim (λ e. inr (subst (Fits P (H .opened r) (λ k. H .said k r)) (sym e) f)) inl (List·Memᴰ·cases-cons v)
 
 -- step 9
-pub vote-page-sound : {P A : ℕ} {H : History} (b r : ℕ) (p : Page) → H .opened r ≡ fixed p → H .ballot b ≤ r → Sound P A H →
+pub vote-page-sound : {P A : ℕ} {H : History} (b r : ℕ) (p : Page) → H .opened r ≡ fixed p → mayVote H b r → Sound P A H →
     Sound P A (vote H b r p)
 vote-page-sound b r p e l S = vote-sound b r p l (rw e refl) (λ q v. prefix-same q p (rw e at (S .voted b r q v))) S
 
 -- step 10
 pub vote-reading-sound : {P A : ℕ} {H : History} (b r cf k : ℕ) (v : Reading) → H .opened r ≡ free cf → k < P → has cf k ≡ true →
-    H .said k r ≡ reads v → H .ballot b ≤ r → Sound P A H → Sound P A (vote H b r (readingVote cf P k v (H .votes b r)))
+    H .said k r ≡ reads v → mayVote H b r → Sound P A H → Sound P A (vote H b r (readingVote cf P k v (H .votes b r)))
 vote-reading-sound {P} {A} {H} b r cf k v e rack fast spoke l S =
     vote-sound b r _ l (rw e free-vote) (reading-extends P cf said k v (H .votes b r) (S .chains b r)) S
   where

@@ -1,5 +1,5 @@
 -- The moves that the steps make in the history.
-use Prim.Native.Nat.{ℕ}
+use Prim.Native.Nat.{ℕ, _≤_}
 use lib.Dec.{eqb}
 use mathlib.Core.Bool.{cond, _&&_}
 use mathlib.Core.List.{List, [], _∷_}
@@ -37,6 +37,10 @@ openWith H r o = record { ballot = H .ballot; votes = H .votes; said = H .said; 
 -- steps 7 and 8, fast and blank
 abbrev pub say : History → ℕ → ℕ → Mark → History
 say H k r m = record { ballot = H .ballot; votes = H .votes; said = put₂ (H .said) k r m; opened = H .opened; offers = H .offers }
+
+-- a box may vote in a round that its own is not above
+abbrev pub mayVote : History → ℕ → ℕ → Type 0
+mayVote H b r = H .ballot b ≤ r
 
 -- steps 9 and 10, take page and take reading
 abbrev pub vote : History → ℕ → ℕ → Page → History

@@ -21,7 +21,7 @@ use Rattle.acts.specs.Acts.{bodyOf}
 use Rattle.hall.specs.Halls.{blocksOfHall, coordinatorsAt, boxesAt, racksAt, readersAt, messagesAt, blockAt, freshCoordinator, freshBox, freshRack, freshReader, rowOrZero, freshBlock, freshHall}
 use Rattle.safety.proofs.Moved.{Agent, coordinator, box, rack, reader}
 use Rattle.safety.proofs.FreshIsKept.{FreshView, FreshCoordinator, FreshBox, FreshRack, FreshReader, fresh-coordinator, fresh-box, fresh-rack, fresh-reader}
-use Rattle.promise.proofs.Cells.{run-block}
+use Rattle.hall.proofs.Cells.{run-block}
 use Rattle.promise.proofs.GoodBlocks.{stampFor, Good, encoded-good, encoded-body}
 use Rattle.promise.proofs.GoodHalls.{placeOf, Exists, GoodRow, GoodHall, viewOf}
 use Rattle.promise.proofs.FreshRows.{coordinator-rules, box-rules, rack-rules, reader-rules, coordinator-shaped, reader-shaped}

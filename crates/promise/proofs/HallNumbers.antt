@@ -80,7 +80,7 @@ module _ {instance : ℕ} {s : Setup} {count : ℕ} {hall : List ℕ} (g : GoodH
       unless (numbersInRange (h .setup) x) outOfRange
       (unless (eqb (namedRefusal (record { instance = h .instance; setup = h .setup; agent = x .agent }) granted x (rowOf hall x) (messageOf hall x)) granted)
       (namedRefusal (record { instance = h .instance; setup = h .setup; agent = x .agent }) granted x (rowOf hall x) (messageOf hall x))
-      (unless (fits (hallAct hall x) n) postFull granted))
+      (unless (fits (hallAct hall x .sends) n) postFull granted))
 
   chain : Stamp → ℕ → ℕ
   chain h n = unless (stepExists (h .setup) n x) noSuchStep (rest h n)
@@ -153,19 +153,19 @@ module _ {instance : ℕ} {s : Setup} {count : ℕ} {hall : List ℕ} (g : GoodH
 
     -- the number, given that there is such a step
     pub number-is : hallRefusal hall x ≡
-        unless (numbersInRange s x) outOfRange (unless (eqb (actIn .refusal) granted) (actIn .refusal) (unless (fits actIn count) postFull granted))
+        unless (numbersInRange s x) outOfRange (unless (eqb (actIn .refusal) granted) (actIn .refusal) (unless (fits (actIn .sends) count) postFull granted))
     unfolding chain rest
     number-is =
         past-head ∙ ap (λ (b : Bool). unless b noSuchStep (rest (stampFor instance s 0) count)) exists ∙
-        ap (λ (n : ℕ). unless (numbersInRange s x) outOfRange (unless (eqb n granted) n (unless (fits (hallAct hall x) count) postFull granted))) named-is ∙
-        ap (λ (a : Act). unless (numbersInRange s x) outOfRange (unless (eqb (a .refusal) granted) (a .refusal) (unless (fits a count) postFull granted))) act-is
+        ap (λ (n : ℕ). unless (numbersInRange s x) outOfRange (unless (eqb n granted) n (unless (fits (hallAct hall x .sends) count) postFull granted))) named-is ∙
+        ap (λ (a : Act). unless (numbersInRange s x) outOfRange (unless (eqb (a .refusal) granted) (a .refusal) (unless (fits (a .sends) count) postFull granted))) act-is
 
 -- where the number is 0
 pub record HallGranted {instance : ℕ} {s : Setup} {count : ℕ} {hall : List ℕ} (g : GoodHall instance s count hall) (x : Step) : Type 0 where
   pub exists : stepExists s count x ≡ true
   pub range : numbersInRange s x ≡ true
   pub act : actIn g x .refusal ≡ granted
-  pub room : fits (actIn g x) count ≡ true
+  pub room : fits (actIn g x .sends) count ≡ true
 
 own-number : (n later : ℕ) → unless (eqb n granted) n later ≡ granted → (n ≡ granted) × (later ≡ granted)
 own-number n later h = go (eqb n granted) refl h
@@ -184,11 +184,11 @@ hall-granted {s = s} {count = count} g x h = ⊎-elim go (λ e. absurd (omega (a
           exists = e;
           range = unless-held (numbersInRange s x) outOfRange _ (omega arith) number;
           act = own .0;
-          room = unless-held (fits (actIn g x) count) postFull granted (omega arith) (own .1);
+          room = unless-held (fits (actIn g x .sends) count) postFull granted (omega arith) (own .1);
         }
       where
-        number : unless (numbersInRange s x) outOfRange (unless (eqb (actIn g x .refusal) granted) (actIn g x .refusal) (unless (fits (actIn g x) count) postFull granted)) ≡ granted
+        number : unless (numbersInRange s x) outOfRange (unless (eqb (actIn g x .refusal) granted) (actIn g x .refusal) (unless (fits (actIn g x .sends) count) postFull granted)) ≡ granted
         number = sym (number-is g x e) ∙ h
 
-        own : (actIn g x .refusal ≡ granted) × (unless (fits (actIn g x) count) postFull granted ≡ granted)
+        own : (actIn g x .refusal ≡ granted) × (unless (fits (actIn g x .sends) count) postFull granted ≡ granted)
         own = own-number (actIn g x .refusal) _ (unless-later (numbersInRange s x) outOfRange _ (omega arith) number)

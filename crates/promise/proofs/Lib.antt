@@ -1,4 +1,3 @@
-pub mod Cells
 pub mod GoodBlocks
 pub mod GoodHalls
 pub mod Written

@@ -132,7 +132,7 @@ module _ (instance : ℕ) (s : Setup) (range : setupInRange s ≡ true) (small :
           subst Mild (sym (number-is g x e))
           (mild-unless (numbersInRange s x) (record { low = inr (omega arith); fits = λ q. omega (arith, q) })
           (mild-unless (eqb (actIn g x .refusal) granted) (by-code (x .code) (x .agent) (x .message) (x .n) (x .c) (x .cf) (x .reading) e)
-          (mild-unless (fits (actIn g x) count) (record { low = inr (omega arith); fits = λ q. omega (arith, q) }) mild-0)))
+          (mild-unless (fits (actIn g x .sends) count) (record { low = inr (omega arith); fits = λ q. omega (arith, q) }) mild-0)))
 
   pub never-refused : (x : Step) → (hallRefusal hall x ≢ 1) × ((hallRefusal hall x ≢ 2) × ((hallRefusal hall x ≢ 3) × (hallRefusal hall x ≢ 9)))
   never-refused x = (λ e. low 1 (omega arith) (omega arith) e, (λ e. low 2 (omega arith) (omega arith) e, (λ e. low 3 (omega arith) (omega arith) e, number-mild x .fits)))

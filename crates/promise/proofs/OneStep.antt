@@ -173,7 +173,7 @@ module _ {instance : ℕ} {s : Setup} {count : ℕ} {hall : List ℕ} (g : GoodH
               ap (λ (p : ℕ). putBlock p block (posted (encode o (stampFor instance s a) out) hall)) place
 
           room : count < mostMessages
-          room = ltb-true _ _ (ap (λ (y : Act). fits y count) (sym e) ∙ f .room)
+          room = ltb-true _ _ (ap (λ (y : Act). fits (y .sends) count) (sym e) ∙ f .room)
 
           wrote : Wrote instance s (placeOf (who a)) block (encode o (stampFor instance s a) out) count (count + 1) hall (granting hall x)
           wrote =

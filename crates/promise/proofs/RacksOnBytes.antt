@@ -26,7 +26,7 @@ use Rattle.safety.proofs.TrueMessages.{propose, twoS, twoA}
 use Rattle.safety.proofs.Moved.{rack}
 use Rattle.safety.proofs.StepsKeep as Grants
 use Rattle.safety.proofs.PagesChange.{rack-apart}
-use Rattle.promise.proofs.Cells.{length-block}
+use Rattle.hall.proofs.Cells.{length-block}
 use Rattle.promise.proofs.GoodBlocks.{stampFor, Good, good-is, good-rules}
 use Rattle.promise.proofs.GoodHalls.{GoodHall}
 use Rattle.promise.proofs.HallNumbers.{HallGranted, named-agent, named-number}

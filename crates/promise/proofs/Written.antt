@@ -24,7 +24,7 @@ use Rattle.hall.specs.Steps.{mostMessages, headOf, countOf, putBlock, posted}
 use Rattle.safety.proofs.TrueMessages.{Message}
 use Rattle.safety.proofs.Moved.{Agent, coordinator, box, rack, reader, agent-discrete}
 use Rattle.safety.proofs.Views.{Changes}
-use Rattle.promise.proofs.Cells.{put-length, put-same, put-other}
+use Rattle.hall.proofs.Cells.{put-length, put-same, put-other}
 use Rattle.promise.proofs.GoodBlocks.{stampFor, Good, OfHall, encoded-good, encoded-body}
 use Rattle.promise.proofs.GoodHalls.{placeOf, Exists, GoodRow, GoodHall, messageIn, viewOf}
 

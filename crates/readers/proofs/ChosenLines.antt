@@ -26,7 +26,7 @@ use Rattle.records.specs.declared.rows.ReaderRow.{ReaderRow}
 use Rattle.readers.specs.Learning.{heldIn, blankIn, extended, HeldMajority, ChosenPage, Above}
 use Rattle.readers.specs.Counting.{carrying, agreedLine, heldPage, agreedPage}
 use Rattle.readers.proofs.HeldAtRound.{held-at-round}
-use Rattle.readers.proofs.First.{agreed-enough, enough-carrying, agreed-is}
+use Rattle.readers.proofs.AgreedLine.{agreed-enough, enough-carrying, agreed-is}
 
 -- an absent line is a prefix of any
 absent-prefix : (a b : Mark) → isAbsent a ≡ true → prefixMark a b ≡ true

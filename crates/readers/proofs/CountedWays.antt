@@ -26,7 +26,7 @@ use Rattle.readers.specs.declared.counting.Learnt.{Learnt}
 use Rattle.readers.specs.Notes.{refused}
 use Rattle.readers.specs.Learning.{heldIn, blankIn}
 use Rattle.readers.specs.Counting.{agreedLine, heldPage, heldPages, pageLine, lineAt, agreedPage, learntOf, answered, countedOf}
-use Rattle.readers.proofs.First.{agreed-same}
+use Rattle.readers.proofs.AgreedLine.{agreed-same}
 use Rattle.readers.proofs.Ways.{nil-set}
 
 -- the line agreed on in a column is that of the lines which it was gathered from

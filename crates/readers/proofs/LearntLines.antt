@@ -23,7 +23,7 @@ use Rattle.readers.specs.declared.answer.Noted.{Noted}
 use Rattle.readers.specs.Learning.{extended, HeldMajority, JoinsChosen, withPage, Learns, tooFew, notCompatible, allNil, learnt}
 use Rattle.readers.specs.Counting.{agreedPage}
 use Rattle.readers.proofs.HeldAtRound.{held-at-round}
-use Rattle.readers.proofs.First.{count-cut}
+use Rattle.below.proofs.Counts.{count-cut}
 use Rattle.readers.proofs.ChosenLines.{carriers, carriers-line, agreed-majority}
 use Rattle.readers.proofs.CountingLearns.{joins-is}
 

@@ -1,5 +1,5 @@
 pub mod Ways
-pub mod First
+pub mod AgreedLine
 pub mod CountedWays
 pub mod HeldAtRound
 pub mod ChosenLines

@@ -6,6 +6,7 @@ use below::GRANTED;
 use below::LINES_CLASH;
 use below::NO_MAJORITY;
 use below::both;
+use below::one_if;
 use pages::Line;
 use pages::Mark;
 use pages::Page;
@@ -18,7 +19,6 @@ use rounds::Round;
 use rounds::Setup;
 ghost use mathlib.Core.Path.{_≡_};
 ghost use mathlib.Core.Bool.{cond, _&&_};
-ghost use Prim.Native.Nat.{_≤_};
 ghost use Rattle.below.specs.Below.{row};
 ghost use Rattle.pages.specs.Racks.{has, mostRacks, setOf};
 ghost use Rattle.pages.specs.Pages.{line, page, empty, nilExtension};
@@ -50,12 +50,6 @@ fn holds(counts: bool, filled: bool, held: Round, round: Round) -> bool
     ensures { λ r. ⌜ r ≡ counts && filled && sameRound held round ⌝ }
 {
     both(both(counts, filled), held.same(round))
-}
-
-fn one_if(yes: bool) -> u8
-    ensures { λ r. ⌜ (r ≡ cond yes 1 0) × (r ≤ 1) ⌝ }
-{
-    if yes { 1 } else { 0 }
 }
 
 // The racks of cf held blank at exactly the round.

@@ -12,3 +12,4 @@ pub use round::Number;
 pub use round::Round;
 pub use setup::Instance;
 pub use setup::Setup;
+pub use setup::some_racks;

@@ -25,7 +25,7 @@ use Rattle.records.specs.Rules.{coordinatorRules}
 use Rattle.coordinators.specs.Steps.{isVote, anyVote, heardCount, joinedVotes, openPage}
 use Rattle.coordinators.proofs.HighestVote.{highest-vote, highest-top, top-highest, highest-exists}
 use Rattle.coordinators.proofs.OpenPage.{votesHighest, votedPage, open-some-vote, OpenLine, of-vote, all-absent, open-line, open-past, open-joins}
-use Rattle.readers.proofs.First.{count-cut}
+use Rattle.below.proofs.Counts.{count-cut}
 use Rattle.history.specs.History.{_∈_, History, Present}
 use Rattle.history.specs.Reports.{Hearing, Heard, VotedAt, GatheredLine, Gathered}
 use Rattle.history.proofs.Lines.{absent-or-present}

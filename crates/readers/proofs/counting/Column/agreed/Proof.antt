@@ -5,7 +5,7 @@ use Rattle.below.specs.Below.{any}
 use Rattle.below.proofs.Tests.{any-start, any-more, any-ends}
 use Rattle.rounds.specs.Setups.{mostBoxes}
 use Rattle.readers.specs.Counting.{enough, agreedLine, lineAt}
-use Rattle.readers.proofs.First.{first-left, first-none}
+use Rattle.readers.proofs.AgreedLine.{first-left, first-none}
 use borrow.Author.Needs.{needs}
 use Rattle.readers.proofs.counting.Column.agreed.Statement.{statement}
 use Rattle.readers.proofs.counting.Column.agreed.Tie as tie

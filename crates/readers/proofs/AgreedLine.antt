@@ -1,5 +1,5 @@
 -- The line that enough of n boxes agree on, over any number of boxes and any lines: counting finds it exactly if there is one.
-use Prim.Native.Nat.{ℕ, zero, suc, _+_, _≤_, _<_}
+use Prim.Native.Nat.{ℕ, zero, suc, _≤_, _<_}
 use native.Mathlib.Omega.{arith}
 use native.Mathlib.Decide.{decLt}
 use lib.Dec.{leb}
@@ -9,7 +9,7 @@ use mathlib.Core.Bool.{Bool, true, false, not, _&&_, true≢false, false≢true}
 use mathlib.Core.Logic.{⊎-elim}
 use Rattle.below.specs.Below.{any, count}
 use Rattle.below.proofs.Tests.{and-true, and-left, and-right, decided, below-suc, any-at, any-true, any-same, any-none, not-true-false}
-use Rattle.below.proofs.Counts.{count-same, count-some, counts-meet}
+use Rattle.below.proofs.Counts.{count-same, count-some, count-cut, counts-meet}
 use Rattle.pages.specs.declared.line.Mark.{Mark}
 use Rattle.pages.specs.declared.line.Mark.the-variants.{Absent}
 use Rattle.pages.specs.Lines.{isAbsent, prefixMark}
@@ -71,25 +71,6 @@ unfolding agreedLine enough carrying
 agreed-same n need f g e =
     first-same n (enough n need f) (enough n need g) f g
     (λ m. ap (λ (x : ℕ). not (isAbsent m) && leb need x) (count-same n (λ b. prefixMark m (f b)) (λ b. prefixMark m (g b)) (λ k l. ap (prefixMark m) (e k l)))) e
-
--- counts over slots of which only those below A pass are counts over A
-pub count-cut : (n A : ℕ) (f : ℕ → Bool) → A ≤ n → ((k : ℕ) → k < n → f k ≡ true → k < A) → count n f ≡ count A f
-unfolding count
-count-cut zero A f l h = ap (λ (m : ℕ). count m f) (zero-is A l)
-  where
-    zero-is : (A : ℕ) → A ≤ 0 → 0 ≡ A
-    zero-is A l = omega arith
-count-cut (suc n) A f l h = go (λ m. count-cut n A f m (λ k j. h k (omega arith))) (decLt n A)
-  where
-    go : (A ≤ n → count n f ≡ count A f) → Dec (n < A) → count (suc n) f ≡ count A f
-    go ih (yes m) = ap (λ (j : ℕ). count j f) (same m)
-      where
-        same : n < A → suc n ≡ A
-        same m = omega arith
-    go ih (no d) = rw (not-true-false (f n) (λ e. d (h n (omega arith) e))) (plus-none (count n f) ∙ ih (omega (arith, d)))
-      where
-        plus-none : (x : ℕ) → x + 0 ≡ x
-        plus-none x = omega arith
 
 -- two majorities share a box: of n slots, of which only those of the A boxes count
 pub majorities-share : (n A : ℕ) (f g : ℕ → Bool) → ((k : ℕ) → k < n → f k ≡ true → k < A) → ((k : ℕ) → k < n → g k ≡ true → k < A) →

@@ -1,0 +1,71 @@
+// The C interface, declared and documented in include/chinchor.h: nothing but exported functions over
+// the others. In C each lent buffer is a pointer, then its length.
+ghost use mathlib.Core.Path.{_≡_};
+ghost use Rattle.rounds.specs.Setups.{setupOf};
+ghost use Rattle.hall.specs.Halls.{Sets};
+ghost use Rattle.hall.specs.Steps.{Steps};
+ghost use Rattle.box_step.specs.BoxSteps.{BoxSteps};
+
+// One step on three separate buffers: the row, the message read, the message sent.
+#[no_mangle]
+pub extern "C" fn chinchor_box_step(
+    row: &mut [u8],
+    message: &[u8],
+    sent: &mut [u8],
+    code: u32,
+    agent: u32,
+    message_number: u32,
+    n: u32,
+    c: u32,
+    cf: u32,
+    reading: u32,
+) -> u32
+    ensures { λ r. ⌜ BoxSteps (now (row .entry)) (now (message .entry)) (now (sent .entry)) (now (row .exit)) (now (sent .exit)) (record { code = code; agent = agent; message = message_number; n = n; c = c; cf = cf; reading = reading }) r ⌝ }
+{
+    box_step::step(
+        row,
+        message,
+        sent,
+        code,
+        agent,
+        message_number,
+        n,
+        c,
+        cf,
+        reading,
+    )
+}
+
+// A hall is set up anew.
+#[no_mangle]
+pub extern "C" fn chinchor_hall_setup(
+    hall: &mut [u8],
+    instance: u32,
+    racks: u32,
+    boxes: u32,
+    coordinators: u32,
+    readers: u32,
+    c0: u32,
+    cf0: u32,
+) -> u32
+    ensures { λ r. ⌜ Sets (now (hall .entry)) (now (hall .exit)) instance (setupOf racks boxes coordinators readers c0 cf0) r ⌝ }
+{
+    hall::setup(hall, instance, racks, boxes, coordinators, readers, c0, cf0)
+}
+
+// One step of a whole hall.
+#[no_mangle]
+pub extern "C" fn chinchor_hall_step(
+    hall: &mut [u8],
+    code: u32,
+    agent: u32,
+    message_number: u32,
+    n: u32,
+    c: u32,
+    cf: u32,
+    reading: u32,
+) -> u32
+    ensures { λ r. ⌜ Steps (now (hall .entry)) (now (hall .exit)) (record { code = code; agent = agent; message = message_number; n = n; c = c; cf = cf; reading = reading }) r ⌝ }
+{
+    hall_step::step(hall, code, agent, message_number, n, c, cf, reading)
+}

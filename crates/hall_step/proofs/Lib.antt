@@ -1,0 +1,3 @@
+pub mod Parts
+pub mod Stepping
+pub mod HeadRead

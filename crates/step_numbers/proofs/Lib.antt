@@ -1,0 +1,2 @@
+pub mod StepNumbers
+pub mod SameAct
