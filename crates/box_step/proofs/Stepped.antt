@@ -1,12 +1,13 @@
 -- The C step, by the ways through its code.
-use Prim.Native.Nat.{ℕ}
+use Prim.Native.Nat.{ℕ, _≤_}
 use native.Mathlib.Omega.{arith}
-use lib.Dec.{eqb}
-use lib.ListN.{length}
-use borrow.Author.Tests.{eq-eqb, ne-eqb, eqb-false}
+use lib.Dec.{eqb, ltb}
+use lib.ListN.{length, take, drop, drop-of-length-le}
+use lib.Seq.{take-all}
+use borrow.Author.Tests.{eq-eqb, ne-eqb, eqb-true, eqb-false, ltb-true, leb-true}
 use mathlib.Core.Path.{_≡_, refl, sym, ap, subst, _∙_}
 use mathlib.Core.Bool.{Bool, true, false, cond, _&&_, false≢true}
-use mathlib.Core.List.{List}
+use mathlib.Core.List.{List, _++_, append-nil}
 use Rattle.below.specs.Refusals.{unless, granted}
 use Rattle.below.proofs.Tests.{and-left, and-right}
 use Rattle.rounds.specs.Setups.{setupInRange}
@@ -20,6 +21,7 @@ use Rattle.message_blocks.specs.Messages.{propose, oneA, oneB, twoS, twoA, twoB
 use Rattle.row_blocks.specs.Rows.{head, coordinator, box, rack, reader}
 use Rattle.kinds.specs.Known.{goodAs, known}
 use Rattle.acts.specs.declared.step.Step.{Step}
+use Rattle.acts.specs.declared.numbers.Numbers.{Numbers}
 use Rattle.acts.specs.Acts.{Act}
 use Rattle.acts.specs.Named.{badBlock, stampOf, ownAct, namedRefusal}
 use Rattle.acts.specs.Answers.{Acts, stepOf}
@@ -65,12 +67,12 @@ in-range false e = absurd (false≢true e)
 -- a granted act had a good row, and numbers in range
 named-good : (own : Stamp) (late : ℕ) (x : Step) (row message : List ℕ) → namedRefusal own late x row message ≡ granted → (known row ≡ true) × (eqb late granted ≡ true)
 unfolding namedRefusal
-named-good own late x row message h = go (known row) (eqb late granted) refl h
+named-good own late x row message h = go (known row) (eqb late granted) _ refl h
   where
-    go : (g l : Bool) {rest : ℕ} → eqb late granted ≡ l → unless g badBlock (unless l late rest) ≡ granted → (g ≡ true) × (l ≡ true)
-    go true true e k = (refl, refl)
-    go true false e k = absurd (eqb-false _ _ e k)
-    go false l e k = absurd (omega (arith, k))
+    go : (g l : Bool) (rest : ℕ) → eqb late granted ≡ l → unless g badBlock (unless l late rest) ≡ granted → (g ≡ true) × (l ≡ true)
+    go true true rest e k = (refl, refl)
+    go true false rest e k = absurd (eqb-false _ _ e k)
+    go false l rest e k = absurd (omega (arith, k))
 
 module _ (row message sent : List ℕ) (x : Step) where
   refused-with : (n : ℕ) → eqb n granted ≡ false → boxRefusal row message sent x ≡ n → BoxSteps row message sent row sent x n
@@ -86,8 +88,21 @@ module _ (row message sent : List ℕ) (x : Step) where
     unfolding boxRefusal
     no-such-step h = refused-with 4 refl (rw (long, h))
 
-    module _ (code : isCode (x .code) ≡ true) {late : ℕ} (late-is : late ≡ rangeRefusal (stampOf row .setup) x) {refusal : ℕ} {sends : Bool} {a a' b' : List ℕ}
-        (acted : Acts (namedRefusal (stampOf row) late (stepOf (x .code) (narrowed x)) row message) (ownAct (stepOf (x .code) (narrowed x)) row message) refusal sends a sent a' b') where
+    -- `part` is the row as it was lent to the act, `own` its stamp
+    module _ (code : isCode (x .code) ≡ true) {part : List ℕ} {own : Stamp} {numbers : Numbers} {late refusal : ℕ} {sends : Bool} {a a' b' : List ℕ} (part-is : part ≡ row)
+        (own-is : own ≡ stampOf part) (late-said : late ≡ rangeRefusal (own .setup) x) (numbers-are : numbers ≡ narrowed x)
+        (said : Acts (namedRefusal own late (stepOf (x .code) numbers) part message) (ownAct (stepOf (x .code) numbers) part message) refusal sends a sent a' b') where
+      abbrev Said : Stamp → Numbers → List ℕ → Type 0
+      Said o y l = Acts (namedRefusal o late (stepOf (x .code) y) l message) (ownAct (stepOf (x .code) y) l message) refusal sends a sent a' b'
+
+      acted : Said (stampOf row) (narrowed x) row
+      acted =
+          subst (λ (l : List ℕ). Said (stampOf l) (narrowed x) l) part-is
+          (subst (λ (o : Stamp). Said o (narrowed x) part) own-is (subst (λ (y : Numbers). Said own y part) numbers-are said))
+
+      late-is : late ≡ rangeRefusal (stampOf row .setup) x
+      late-is = late-said ∙ ap (λ (o : Stamp). rangeRefusal (o .setup) x) (own-is ∙ ap stampOf part-is)
+
       number : ℕ
       number = namedRefusal (stampOf row) (rangeRefusal (stampOf row .setup) x) x row message
 
@@ -142,3 +157,21 @@ module _ (row message sent : List ℕ) (x : Step) where
             go : (y : Bool) → b' ≡ cond y (ownAct x row message .sent) sent → cond y b' (zeros blockSize) ≡ cond y (ownAct x row message .sent) (zeros blockSize)
             go true e = e
             go false e = refl
+
+-- the row is lent whole
+pub whole : (row : List ℕ) → length row ≡ blockSize → take blockSize row ≡ row
+whole row l = take-all blockSize row (omega (arith, l))
+
+pub lengths : {r : Bool} (row message sent : List ℕ) → r ≡ isBlock row && (isBlock message && isBlock sent) → r ≡ true →
+    (length row ≡ blockSize) × ((length message ≡ blockSize) × (length sent ≡ blockSize))
+lengths row message sent e h =
+    let rest = and-right (isBlock row) _ (sym e ∙ h) in
+    (eqb-true _ _ (and-left (isBlock row) _ (sym e ∙ h)), (eqb-true _ _ (and-left (isBlock message) _ rest), eqb-true _ _ (and-right (isBlock message) _ rest)))
+
+pub copied : (from to after : List ℕ) → length from ≡ blockSize → length to ≡ blockSize → after ≡ take (length from) from ++ drop (length from) to → after ≡ from
+copied from to after f t e =
+    e ∙ ap (λ (l : List ℕ). l ++ drop (length from) to) (take-all (length from) from (omega arith)) ∙
+    ap (λ (l : List ℕ). from ++ l) (drop-of-length-le to {i = length from} (omega (arith, t, f))) ∙ append-nil from
+
+pub code-range : (code : ℕ) → isCode code ≡ true → (1 ≤ code) × (code ≤ 13)
+code-range code h = (ltb-true 0 code (and-left (ltb 0 code) _ h), leb-true code 13 (and-right (ltb 0 code) _ h))

@@ -58,13 +58,13 @@ pub fn step(
     sent: &mut [u8],
     code: u32,
     agent: u32,
-    message_number: u32,
+    number: u32,
     n: u32,
     c: u32,
     cf: u32,
     reading: u32,
 ) -> u32
-    ensures { λ r. ⌜ BoxSteps (now (row .entry)) (now (message .entry)) (now (sent .entry)) (now (row .exit)) (now (sent .exit)) (record { code = code; agent = agent; message = message_number; n = n; c = c; cf = cf; reading = reading }) r ⌝ }
+    ensures { λ r. ⌜ BoxSteps (now (row .entry)) (now (message .entry)) (now (sent .entry)) (now (row .exit)) (now (sent .exit)) (record { code = code; agent = agent; message = number; n = n; c = c; cf = cf; reading = reading }) r ⌝ }
 {
     if !are_blocks(row.len(), message.len(), sent.len()) {
         return WRONG_LENGTH;
@@ -75,7 +75,7 @@ pub fn step(
     let step = Step {
         code,
         agent,
-        message: message_number,
+        message: number,
         n,
         c,
         cf,

@@ -14,26 +14,15 @@ pub extern "C" fn chinchor_box_step(
     sent: &mut [u8],
     code: u32,
     agent: u32,
-    message_number: u32,
+    number: u32,
     n: u32,
     c: u32,
     cf: u32,
     reading: u32,
 ) -> u32
-    ensures { λ r. ⌜ BoxSteps (now (row .entry)) (now (message .entry)) (now (sent .entry)) (now (row .exit)) (now (sent .exit)) (record { code = code; agent = agent; message = message_number; n = n; c = c; cf = cf; reading = reading }) r ⌝ }
+    ensures { λ r. ⌜ BoxSteps (now (row .entry)) (now (message .entry)) (now (sent .entry)) (now (row .exit)) (now (sent .exit)) (record { code = code; agent = agent; message = number; n = n; c = c; cf = cf; reading = reading }) r ⌝ }
 {
-    box_step::step(
-        row,
-        message,
-        sent,
-        code,
-        agent,
-        message_number,
-        n,
-        c,
-        cf,
-        reading,
-    )
+    box_step::step(row, message, sent, code, agent, number, n, c, cf, reading)
 }
 
 // A hall is set up anew.
@@ -59,13 +48,13 @@ pub extern "C" fn chinchor_hall_step(
     hall: &mut [u8],
     code: u32,
     agent: u32,
-    message_number: u32,
+    number: u32,
     n: u32,
     c: u32,
     cf: u32,
     reading: u32,
 ) -> u32
-    ensures { λ r. ⌜ Steps (now (hall .entry)) (now (hall .exit)) (record { code = code; agent = agent; message = message_number; n = n; c = c; cf = cf; reading = reading }) r ⌝ }
+    ensures { λ r. ⌜ Steps (now (hall .entry)) (now (hall .exit)) (record { code = code; agent = agent; message = number; n = n; c = c; cf = cf; reading = reading }) r ⌝ }
 {
-    hall_step::step(hall, code, agent, message_number, n, c, cf, reading)
+    hall_step::step(hall, code, agent, number, n, c, cf, reading)
 }
