@@ -1,0 +1,40 @@
+-- The walk's code: the line that it reads, one more entry, and the list copied to the lent row.
+use Prim.Native.Nat.{ℕ, suc, _+_, _*_, _≤_, _<_}
+use native.Mathlib.Nat.{le-antisymm, zero-add}
+use native.Mathlib.Numerals.{add-one}
+use native.Mathlib.Omega.{arith}
+use lib.ListN.{length, getD, take, drop, set, length-set}
+use lib.Seq.{paste-suc}
+use mathlib.Core.Path.{_≡_, sym, ap, _∙_}
+use mathlib.Core.Bool.{Bool}
+use mathlib.Core.List.{List, _++_}
+use Rattle.below.proofs.Rows.{row-at}
+use Rattle.pages.specs.declared.line.Mark.{Mark}
+use Rattle.pages.specs.declared.line.Mark.the-variants.{Absent}
+use Rattle.pages.specs.declared.line.Line.{Line}
+use Rattle.pages.specs.Racks.{mostRacks}
+use Rattle.pages.specs.Pages.{line, at}
+use Rattle.fields.specs.Codecs.{Got}
+use Rattle.fields.specs.Layout.{lineAs}
+use Rattle.blocks.specs.Kinds.{decode}
+use Rattle.row_blocks.specs.Rows.{reader}
+use Rattle.book.specs.Book.{blockAt, pageAt}
+
+-- a line where it stands is that rack's line of the page
+pub line-of-page : (blocks : List ℕ) (instance rack : ℕ) {block : List ℕ} {value : Line} {exact : Bool} → rack < mostRacks → block ≡ blockAt blocks instance →
+    Got lineAs block (10 + 5 * rack) value exact → value .mark ≡ at (pageAt blocks instance) rack
+unfolding at
+line-of-page blocks instance rack {block} l e g =
+    ap (λ (x : Line). x .mark) (g .is) ∙ sym (ap (λ (x : Line). x .mark) (row-at mostRacks (λ k. lineAs .get block (10 + 5 * k)) rack (line Absent) l)) ∙
+    ap (λ (b : List ℕ). at (decode reader b .1 .page) rack) e
+
+-- the loop that copies
+pub copy-more : (from old list : List ℕ) (k : ℕ) {count : ℕ} → count ≤ length from → count ≤ length old → k < count → length list ≡ length old → list ≡ take k from ++ drop k old →
+    (k + 1 ≤ count) × ((length (set list k (getD from k 0)) ≡ length old) × (set list k (getD from k 0) ≡ take (k + 1) from ++ drop (k + 1) old))
+copy-more from old list k f o l long h = (omega arith, (length-set list k (getD from k 0) ∙ long, ap (λ (t : List ℕ). set t k (getD from k 0)) h ∙ rw add-one next))
+  where
+    next : set (take k from ++ drop k old) k (getD from k 0) ≡ take (suc k) from ++ drop (suc k) old
+    next = simp zero-add at (paste-suc old 0 from k 0 (omega arith) (omega arith))
+
+pub copy-ends : (from old list : List ℕ) (count : ℕ) {k : ℕ} → k ≤ count → count ≤ k → list ≡ take k from ++ drop k old → list ≡ take count from ++ drop count old
+copy-ends from old list count a b h = h ∙ ap (λ (n : ℕ). take n from ++ drop n old) (le-antisymm a b)

@@ -1,0 +1,88 @@
+use Prim.Native.Nat.{_≤_, _-_}
+use lib.ListN.{length}
+use mathlib.Core.Path.{_≡_}
+use Rattle.book.specs.Book.{pageAt}
+use Rattle.book.proofs.Walks.{Between, Within, at-start, page-begins, page-ends, line-entered, walk-left, walk-ends}
+use borrow.Author.Needs.{needs}
+use Rattle.book.proofs.walking.walk.Statement.{statement}
+use Rattle.book.proofs.walking.walk.Tie as tie
+
+abbrev Inv-loop : tie.InvT-loop
+Inv-loop blocks count racks list₀ listed₀ instance rack₀ list listed rack =
+    (rack ≤ racks) × ((length list ≡ length list₀) × Within (pageAt blocks) count racks instance rack listed list)
+
+abbrev μ-loop : tie.MeasureT-loop
+μ-loop blocks count racks list₀ listed₀ instance rack₀ list listed rack = racks - rack
+
+abbrev Inv-walk : tie.InvT-walk
+Inv-walk blocks count racks list₀ listed₀ instance₀ list listed instance =
+    (instance ≤ count) × ((length list ≡ length list₀) × Between (pageAt blocks) count racks instance listed list)
+
+abbrev μ-walk : tie.MeasureT-walk
+μ-walk blocks count racks list₀ listed₀ instance₀ list listed instance = count - instance
+
+walk-holds : tie.Need-walk-holds Inv-loop μ-loop Inv-walk μ-walk
+walk-holds c = ?
+
+loop-holds : tie.Need-loop-holds Inv-loop μ-loop Inv-walk μ-walk
+loop-holds c = ?
+
+line-at-requires : tie.Need-line-at-requires Inv-loop μ-loop Inv-walk μ-walk
+line-at-requires c κs = ?
+
+enter-requires : tie.Need-enter-requires Inv-loop μ-loop Inv-walk μ-walk
+enter-requires c κs = ?
+
+add-rack : tie.Need-add-rack Inv-loop μ-loop Inv-walk μ-walk
+add-rack c = search needs
+
+loop-less : tie.Need-loop-less Inv-loop μ-loop Inv-walk μ-walk
+loop-less c = search needs
+
+loop-again : tie.Need-loop-again Inv-loop μ-loop Inv-walk μ-walk
+loop-again c = ?
+
+add-instance : tie.Need-add-instance Inv-loop μ-loop Inv-walk μ-walk
+add-instance c = search needs
+
+walk-less : tie.Need-walk-less Inv-loop μ-loop Inv-walk μ-walk
+walk-less c = search needs
+
+walk-again : tie.Need-walk-again Inv-loop μ-loop Inv-walk μ-walk
+walk-again c = ?
+
+same-length : tie.Need-same-length Inv-loop μ-loop Inv-walk μ-walk
+same-length c = ?
+
+returns : tie.Need-returns Inv-loop μ-loop Inv-walk μ-walk
+returns c = ?
+
+same-length-2 : tie.Need-same-length-2 Inv-loop μ-loop Inv-walk μ-walk
+same-length-2 c = ?
+
+returns-2 : tie.Need-returns-2 Inv-loop μ-loop Inv-walk μ-walk
+returns-2 c = ?
+
+pub walk-spec : {M : Type 1} → statement M
+walk-spec =
+    tie.close
+    (tie.spec
+    Inv-loop
+    μ-loop
+    Inv-walk
+    μ-walk
+    walk-holds
+    loop-holds
+    line-at-requires
+    (λ c κs. search needs)
+    enter-requires
+    add-rack
+    loop-less
+    loop-again
+    add-instance
+    walk-less
+    walk-again
+    same-length
+    returns
+    same-length-2
+    returns-2)
