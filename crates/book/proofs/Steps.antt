@@ -4,11 +4,13 @@ use native.Mathlib.Nat.{le-antisymm, zero-add}
 use native.Mathlib.Numerals.{add-one}
 use native.Mathlib.Omega.{arith}
 use lib.ListN.{length, getD, take, drop, set, length-set}
-use lib.Seq.{paste-suc}
-use mathlib.Core.Path.{_≡_, sym, ap, _∙_}
-use mathlib.Core.Bool.{Bool}
+use lib.Seq.{paste-suc, take-suc-set}
+use mathlib.Core.Path.{_≡_, refl, sym, ap, _∙_}
+use mathlib.Core.Bool.{Bool, true, false}
 use mathlib.Core.List.{List, _++_}
+use Rattle.below.proofs.Tests.{pick-yes, pick-no}
 use Rattle.below.proofs.Rows.{row-at}
+use Rattle.pages.specs.declared.line.Reading
 use Rattle.pages.specs.declared.line.Mark.{Mark}
 use Rattle.pages.specs.declared.line.Mark.the-variants.{Absent}
 use Rattle.pages.specs.declared.line.Line.{Line}
@@ -18,6 +20,7 @@ use Rattle.fields.specs.Codecs.{Got}
 use Rattle.fields.specs.Layout.{lineAs}
 use Rattle.blocks.specs.Kinds.{decode}
 use Rattle.row_blocks.specs.Rows.{reader}
+use Rattle.book.specs.Lists.{listed, entered, Entered}
 use Rattle.book.specs.Book.{blockAt, pageAt}
 
 -- a line where it stands is that rack's line of the page
@@ -36,5 +39,18 @@ copy-more from old list k f o l long h = (omega arith, (length-set list k (getD 
     next : set (take k from ++ drop k old) k (getD from k 0) ≡ take (suc k) from ++ drop (suc k) old
     next = simp zero-add at (paste-suc old 0 from k 0 (omega arith) (omega arith))
 
-pub copy-ends : (from old list : List ℕ) (count : ℕ) {k : ℕ} → k ≤ count → count ≤ k → list ≡ take k from ++ drop k old → list ≡ take count from ++ drop count old
-copy-ends from old list count a b h = h ∙ ap (λ (n : ℕ). take n from ++ drop n old) (le-antisymm a b)
+pub copy-ends : (from old list : List ℕ) (count k : ℕ) → k ≤ count → count ≤ k → list ≡ take k from ++ drop k old → list ≡ take count from ++ drop count old
+copy-ends from old list count k a b h = h ∙ ap (λ (n : ℕ). take n from ++ drop n old) (le-antisymm a b)
+
+-- one line entered: nothing changed, or one number more at the end
+pub kept : (room : List ℕ) (count : ℕ) → Entered (take count room) count count room
+kept room count = record { is = refl; more = omega arith }
+
+pub skipped : (room : List ℕ) (count : ℕ) (r : Reading.Reading) {b : Bool} → b ≡ listed (r .0) (take count room) → b ≡ true → Entered (entered r (take count room)) count count room
+unfolding entered
+skipped room count r e h = record { is = pick-yes _ e h refl; more = omega arith }
+
+pub added : (room : List ℕ) (count : ℕ) (r : Reading.Reading) {b : Bool} → count < length room → b ≡ listed (r .0) (take count room) → b ≡ false →
+    Entered (entered r (take count room)) count (count + 1) (set room count (r .0))
+unfolding entered
+added room count r l e h = record { is = pick-no _ e h (rw add-one (take-suc-set room count (r .0) l)); more = omega arith }

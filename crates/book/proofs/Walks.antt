@@ -75,18 +75,18 @@ module _ (pageOf : ℕ → Page) (count racks : ℕ) where
         ap (λ (x : Mark). walk (take listed room) (x ∷ (drop (rack + 1) (row racks (at (pageOf instance))) ++ linesOf racks (drop (instance + 1) (row count pageOf))))) e ∙
         ap (λ (ms : List Mark). walk (take listed room) (ms ++ linesOf racks (drop (instance + 1) (row count pageOf)))) (sym (row-left racks rack (at (pageOf instance)) l)) ∙ w .rest
 
-    pub line-entered : {listed' : ℕ} {room' : List ℕ} → isAbsent m ≡ false → Entered (marked m (take listed room)) listed listed' room' → Within instance (rack + 1) listed' room'
-    line-entered {listed'} {room'} h n =
+    pub line-entered : {listed' : ℕ} {room' : List ℕ} {r : Bool} → r ≡ isAbsent m → r ≡ false → Entered (marked m (take listed room)) listed listed' room' → Within instance (rack + 1) listed' room'
+    line-entered {listed'} {room'} q h n =
         record {
           few = let f = w .few in let g = n .more in omega arith;
           rest =
               ap (λ (list : List ℕ). walk list (drop (rack + 1) (row racks (at (pageOf instance))) ++ linesOf racks (drop (instance + 1) (row count pageOf)))) (n .is) ∙
-              sym (walk-goes m (take listed room) _ h) ∙ ahead;
+              sym (walk-goes m (take listed room) _ (sym q ∙ h)) ∙ ahead;
         }
 
     -- the way out by the label
-    pub walk-left : isAbsent m ≡ true → listed ≤ length room → Walked (listOf racks (row count pageOf)) listed room
-    walk-left h f = record { is = sym (walk-stops m (take listed room) _ h) ∙ ahead; fits = f }
+    pub walk-left : {r : Bool} → r ≡ isAbsent m → r ≡ true → listed ≤ length room → Walked (listOf racks (row count pageOf)) listed room
+    walk-left q h f = record { is = sym (walk-stops m (take listed room) _ (sym q ∙ h)) ∙ ahead; fits = f }
 
   -- the way out behind the last instance
   pub walk-ends : {instance listed : ℕ} {room : List ℕ} → count ≤ instance → listed ≤ length room → Between instance listed room → Walked (listOf racks (row count pageOf)) listed room

@@ -17,7 +17,7 @@ loop-again : tie.Need-loop-again Inv-loop μ-loop
 loop-again c = copy-more _ _ _ _ (c .before .before .before .pre .0) (c .before .before .before .pre .1) (c .before .loop-test .taken) (c .before .before .loop .inv .1 .0) (c .before .before .loop .inv .1 .1)
 
 returns : tie.Need-returns Inv-loop μ-loop
-returns c = copy-ends _ _ _ _ (search needs) (search needs) (c .before .loop .inv .1 .1)
+returns c = copy-ends _ _ _ (c .before .before .args .count) (c .before .loop .k) (search needs) (search needs) (c .before .loop .inv .1 .1)
 
 pub copy-spec : {M : Type 1} → statement M
 copy-spec = tie.close (tie.spec Inv-loop μ-loop (λ c. (search needs, (refl, refl))) (λ c. search needs) (λ c. search needs) (λ c. search needs) (λ c. search needs) (λ c. search needs) (λ c. search needs) loop-again (λ c. search needs) returns)
