@@ -4,3 +4,4 @@ pub mod Steps
 pub mod Walks
 pub mod Booking
 pub mod Unique
+pub mod Starts
