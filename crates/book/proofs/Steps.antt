@@ -5,9 +5,10 @@ use native.Mathlib.Numerals.{add-one}
 use native.Mathlib.Omega.{arith}
 use lib.ListN.{length, getD, take, drop, set, length-set}
 use lib.Seq.{paste-suc, take-suc-set}
-use mathlib.Core.Path.{_≡_, refl, sym, ap, _∙_}
-use mathlib.Core.Bool.{Bool, true, false}
+use mathlib.Core.Path.{_≡_, refl, sym, ap, subst, _∙_}
+use mathlib.Core.Bool.{Bool, true, false, _||_}
 use mathlib.Core.List.{List, _++_}
+use Rattle.below.specs.Below.{any}
 use Rattle.below.proofs.Tests.{pick-yes, pick-no}
 use Rattle.below.proofs.Rows.{row-at}
 use Rattle.pages.specs.declared.line.Reading
@@ -41,6 +42,14 @@ copy-more from old list k f o l long h = (omega arith, (length-set list k (getD 
 
 pub copy-ends : (from old list : List ℕ) (count k : ℕ) → k ≤ count → count ≤ k → list ≡ take k from ++ drop k old → list ≡ take count from ++ drop count old
 copy-ends from old list count k a b h = h ∙ ap (λ (n : ℕ). take n from ++ drop n old) (le-antisymm a b)
+
+-- the loop that looks for a number, to the end of the list
+pub any-next : (k : ℕ) {found r : Bool} (f : ℕ → Bool) → found ≡ any k f → r ≡ found || f k → r ≡ any (k + 1) f
+unfolding any
+any-next k f p q = rw (q, p, add-one k)
+
+pub any-whole : {k : ℕ} {found : Bool} (n : ℕ) (f : ℕ → Bool) → found ≡ any k f → k ≤ n → n ≤ k → found ≡ any n f
+any-whole {k} {found} n f h a b = subst (λ (m : ℕ). found ≡ any m f) (le-antisymm a b) h
 
 -- one line entered: nothing changed, or one number more at the end
 pub kept : (room : List ℕ) (count : ℕ) → Entered (take count room) count count room

@@ -11,6 +11,7 @@ ghost use Rattle.pages.specs.Racks.{mostRacks};
 ghost use Rattle.book.specs.Lists.{listed, entered, marked, listOf, Entered, Walked};
 ghost use Rattle.book.specs.Book.{pageAt};
 use crate::judging::block_at;
+use below::either;
 use fields::read_line;
 use pages::Line;
 use pages::Mark;
@@ -31,15 +32,15 @@ fn line_at(blocks: &[u8], instance: usize, rack: usize) -> Line
     read_line(block_at(blocks, instance), PAGE + LINE * rack).value
 }
 
+// The whole list is looked at, without a way out: such a loop is worked off several numbers at a time.
 fn is_listed(list: &[u32], number: u32) -> bool
     ensures { λ r. ⌜ r ≡ listed number (now (list .entry)) ⌝ }
 {
+    let mut found = false;
     for k in 0..list.len() {
-        if list[k] == number {
-            return true;
-        }
+        found = either(found, list[k] == number);
     }
-    false
+    found
 }
 
 // The count of the list with this reading, which is skipped where the list has it.
