@@ -5,11 +5,10 @@ use lib.Dec.{eqb}
 use lib.ListN.{length, getD, take, drop, length-drop, List·getD-eq-default}
 use lib.Seq.{getD-take, length-take-le}
 use borrow.Author.Tests.{eq-eqb}
-use mathlib.Core.Path.{_≡_, refl, sym, ap, subst, _∙_}
+use mathlib.Core.Path.{_≡_, refl, sym, ap, _∙_}
 use mathlib.Core.Bool.{Bool, true, false, cond}
 use mathlib.Core.List.{List}
 use Rattle.blocks.specs.Frame.{blockSize}
-use Rattle.blocks.specs.Answers.{answer}
 use Rattle.kinds.specs.Known.{known, Told}
 use Rattle.book.specs.Book.{blockAt, isGood, racksOf}
 

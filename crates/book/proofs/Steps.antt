@@ -12,7 +12,6 @@ use Rattle.below.specs.Below.{any}
 use Rattle.below.proofs.Tests.{pick-yes, pick-no}
 use Rattle.below.proofs.Rows.{row-at}
 use Rattle.pages.specs.declared.line.Reading
-use Rattle.pages.specs.declared.line.Mark.{Mark}
 use Rattle.pages.specs.declared.line.Mark.the-variants.{Absent}
 use Rattle.pages.specs.declared.line.Line.{Line}
 use Rattle.pages.specs.Racks.{mostRacks}

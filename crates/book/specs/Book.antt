@@ -1,5 +1,5 @@
 -- The book: its refusals in order, its list, its count, and the lent row afterwards (document 01, 'The book').
-use Prim.Native.Nat.{ℕ, _+_, _*_, _/_, _%_, _≤_}
+use Prim.Native.Nat.{ℕ, _*_, _/_, _%_}
 use lib.Dec.{eqb, leb}
 use lib.ListN.{length, take, drop}
 use mathlib.Core.Path.{_≡_}
@@ -31,10 +31,6 @@ tooShort = 10
 
 abbrev pub mostBlocks : ℕ
 mostBlocks = 64
-
--- the longest list: another reading on every line
-abbrev pub longest : ℕ
-longest = 512
 
 -- the lent blocks: how many, and the one at a place
 abbrev pub countOf : List ℕ → ℕ

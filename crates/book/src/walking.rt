@@ -1,6 +1,5 @@
 // The walk over the lines of all instances, and its list.
 ghost use mathlib.Core.Path.{_≡_};
-ghost use mathlib.Core.Bool.{cond};
 ghost use mathlib.Core.List.{_++_};
 ghost use Prim.Native.Nat.{_+_, _*_, _≤_, _<_};
 ghost use lib.ListN.{length, take, drop};
@@ -10,15 +9,17 @@ ghost use Rattle.pages.specs.Pages.{at};
 ghost use Rattle.pages.specs.Racks.{mostRacks};
 ghost use Rattle.book.specs.Lists.{listed, entered, marked, listOf, Entered, Walked};
 ghost use Rattle.book.specs.Book.{pageAt};
+use crate::judging::MOST_BLOCKS;
 use crate::judging::block_at;
 use below::either;
 use fields::read_line;
 use pages::Line;
 use pages::Mark;
+use pages::RACKS;
 use pages::Reading;
 
 // The longest list: another reading on every line of 64 pages of 8 racks.
-pub const LONGEST: usize = 512;
+pub const LONGEST: usize = MOST_BLOCKS * RACKS;
 
 // Where a reader's block has its page, and the bytes of a line.
 const PAGE: usize = 10;

@@ -1,6 +1,6 @@
 use mathlib.Core.Path.{sym, _∙_}
 use native.Mathlib.Omega.{arith}
-use Rattle.book.proofs.Judged.{Readable, readable}
+use Rattle.book.proofs.Judged.{readable}
 use Rattle.book.proofs.Booking.{blocks-refused, row-too-short, booked}
 use borrow.Author.Needs.{needs}
 use Rattle.book.proofs.book.Statement.{statement}

@@ -1,4 +1,3 @@
-use mathlib.Core.Path.{subst}
 use Rattle.book.proofs.Steps.{line-of-page}
 use borrow.Author.Needs.{needs}
 use Rattle.book.proofs.walking.line_at.Statement.{statement}

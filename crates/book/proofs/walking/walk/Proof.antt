@@ -33,32 +33,14 @@ line-at-requires c κs = (search needs, search needs)
 enter-requires : tie.Need-enter-requires Inv-loop μ-loop Inv-walk μ-walk
 enter-requires c κs = let f = c .before .before .before .before .before .loop .inv .1 .1 .few in search needs
 
-add-rack : tie.Need-add-rack Inv-loop μ-loop Inv-walk μ-walk
-add-rack c = search needs
-
-loop-less : tie.Need-loop-less Inv-loop μ-loop Inv-walk μ-walk
-loop-less c = search needs
-
 loop-again : tie.Need-loop-again Inv-loop μ-loop Inv-walk μ-walk
 loop-again c = (search needs, (search needs, line-entered _ _ _ _ _ (c .before .before .before .before .before .before .before .loop-test .taken) (c .before .before .before .before .before .before .line-at .ensures) (c .before .before .before .before .before .before .before .before .loop .inv .1 .1) (c .before .before .before .before .before .is-absent .ensures) (c .before .before .before .before .if1 .left) (c .before .before .enter .ensures)))
-
-add-instance : tie.Need-add-instance Inv-loop μ-loop Inv-walk μ-walk
-add-instance c = search needs
-
-walk-less : tie.Need-walk-less Inv-loop μ-loop Inv-walk μ-walk
-walk-less c = search needs
 
 walk-again : tie.Need-walk-again Inv-loop μ-loop Inv-walk μ-walk
 walk-again c = (search needs, (search needs, page-ends _ _ _ (c .before .before .before .before .before .before .pre .1 .1) (c .before .loop .inv .0) (search needs) (c .before .loop .inv .1 .1)))
 
-same-length : tie.Need-same-length Inv-loop μ-loop Inv-walk μ-walk
-same-length c = search needs
-
 returns : tie.Need-returns Inv-loop μ-loop Inv-walk μ-walk
 returns c = walk-ends _ _ _ (search needs) (let f = c .before .walk .inv .1 .1 .few in search needs) (c .before .walk .inv .1 .1)
-
-same-length-2 : tie.Need-same-length-2 Inv-loop μ-loop Inv-walk μ-walk
-same-length-2 c = search needs
 
 returns-2 : tie.Need-returns-2 Inv-loop μ-loop Inv-walk μ-walk
 returns-2 c = walk-left _ _ _ _ _ (c .before .before .before .loop-test .taken) (c .before .before .line-at .ensures) (c .before .before .before .before .loop .inv .1 .1) (c .before .is-absent .ensures) (c .if1 .taken) (let f = c .before .before .before .before .loop .inv .1 .1 .few in search needs)
@@ -76,13 +58,13 @@ walk-spec =
     line-at-requires
     (λ c κs. search needs)
     enter-requires
-    add-rack
-    loop-less
+    (λ c. search needs)
+    (λ c. search needs)
     loop-again
-    add-instance
-    walk-less
+    (λ c. search needs)
+    (λ c. search needs)
     walk-again
-    same-length
+    (λ c. search needs)
     returns
-    same-length-2
+    (λ c. search needs)
     returns-2)
