@@ -1,12 +1,13 @@
--- The refusals before the list: by the ways through the code, and what blocks that are not refused are.
-use Prim.Native.Nat.{ℕ, _%_, _≤_, _<_}
+-- The refusals before the list: the loop over all blocks, the ways through the code, and what blocks are that are not refused.
+use Prim.Native.Nat.{ℕ, _+_, _%_, _≤_, _<_}
 use native.Mathlib.Omega.{arith}
+use native.Mathlib.Nat.{le-antisymm}
 use native.Mathlib.Decide.{ℕ-discrete}
 use lib.Dec.{eqb, leb}
 use lib.ListN.{length}
 use borrow.Author.Tests.{not-true, not-false, eqb-true, leb-true}
 use mathlib.Core.Path.{_≡_, refl, subst, _∙_}
-use mathlib.Core.Bool.{Bool, true, false, not}
+use mathlib.Core.Bool.{Bool, true, false, not, _&&_}
 use mathlib.Core.List.{List}
 use Rattle.below.specs.Below.{all}
 use Rattle.below.specs.Refusals.{unless, granted}
@@ -14,6 +15,7 @@ use Rattle.below.proofs.Tests.{pick-yes, pick-no, and-left, and-right, all-at}
 use Rattle.pages.specs.Racks.{mostRacks}
 use Rattle.records.specs.Rules.{stampRules}
 use Rattle.words.specs.Bytes.{byte}
+use Rattle.fields.proofs.Times.{exact-more, exact-start}
 use Rattle.blocks.specs.Frame.{blockSize}
 use Rattle.blocks.specs.Kinds.{decode, good}
 use Rattle.blocks.proofs.Judged.{good-kept}
@@ -21,24 +23,35 @@ use Rattle.blocks.proofs.Ranges.{stamp-setup, setup-fits}
 use Rattle.row_blocks.proofs.Propers.{ReaderFits, reader-proper}
 use Rattle.row_blocks.specs.Rows.{reader}
 use Rattle.kinds.specs.Known.{goodAs}
-use Rattle.book.specs.Book.{mostBlocks, countOf, blockAt, isWhole, isGood, inPlace, isReader, racksOf, blocksRefusal}
+use Rattle.book.specs.Book.{mostBlocks, countOf, blockAt, isWhole, isGood, inPlace, isReader, Judges, racksOf, blocksRefusal}
 use Rattle.book.proofs.Places.{racks-none}
 
-module _ (blocks : List ℕ) {r : Bool} (whole : r ≡ isWhole blocks) where
-  pub not-whole : not r ≡ true → 1 ≡ blocksRefusal blocks granted
+-- the loop over all blocks
+pub judges-start : (blocks : List ℕ) → Judges blocks 0 true true true
+judges-start blocks = record { goods = exact-start _; places = exact-start _; kinds = exact-start _ }
+
+pub judges-more : (blocks : List ℕ) (k : ℕ) {g p r x y z g' p' r' : Bool} → Judges blocks k g p r → x ≡ isGood blocks k → g' ≡ g && x → y ≡ inPlace blocks k → p' ≡ p && y →
+    z ≡ isReader blocks k → r' ≡ r && z → Judges blocks (k + 1) g' p' r'
+judges-more blocks k j ex eg ey ep ez er =
+    record {
+      goods = exact-more (isGood blocks) k (j .goods) ex eg;
+      places = exact-more (inPlace blocks) k (j .places) ey ep;
+      kinds = exact-more (isReader blocks) k (j .kinds) ez er;
+    }
+
+pub judges-end : (blocks : List ℕ) (n k : ℕ) {g p r : Bool} → k ≤ n → n ≤ k → Judges blocks k g p r → Judges blocks n g p r
+judges-end blocks n k {g} {p} {r} a b j = subst (λ (m : ℕ). Judges blocks m g p r) (le-antisymm a b) j
+
+-- the ways through the refusals
+module _ (blocks : List ℕ) {w : Bool} (whole : w ≡ isWhole blocks) where
+  pub not-whole : not w ≡ true → 1 ≡ blocksRefusal blocks granted
   unfolding blocksRefusal
-  not-whole h = pick-no _ whole (not-true r h) refl
+  not-whole h = pick-no _ whole (not-true w h) refl
 
-  module _ {s : Bool} (h : not r ≡ false) (goods : s ≡ all (countOf blocks) (isGood blocks)) where
-    pub one-bad : not s ≡ true → 2 ≡ blocksRefusal blocks granted
-    unfolding blocksRefusal
-    one-bad b = pick-yes _ whole (not-false r h) (pick-no _ goods (not-true s b) refl)
-
-    pub all-judged : {t u : Bool} {later z : ℕ} → not s ≡ false → t ≡ all (countOf blocks) (isReader blocks) → later ≡ unless t 5 granted → u ≡ all (countOf blocks) (inPlace blocks) → z ≡ unless u 3 later →
-        z ≡ blocksRefusal blocks granted
-    unfolding blocksRefusal
-    all-judged g readers last places all-of =
-        pick-yes _ whole (not-false r h) (pick-yes _ goods (not-false s g) (all-of ∙ rw (places, last, readers)))
+  pub all-judged : {g p r : Bool} {kinds places z : ℕ} → not w ≡ false → Judges blocks (countOf blocks) g p r → kinds ≡ unless r 5 granted → places ≡ unless p 3 kinds → z ≡ unless g 2 places →
+      z ≡ blocksRefusal blocks granted
+  unfolding blocksRefusal
+  all-judged h j ek ep ez = pick-yes _ whole (not-false w h) (ez ∙ rw (j .goods, ep, j .places, ek, j .kinds))
 
 -- four conditions by their values: where none refuses, all hold, and what comes after them decides
 abbrev chain : Bool → Bool → Bool → Bool → ℕ → ℕ

@@ -64,6 +64,12 @@ inPlace blocks place =
 unfoldable pub isReader : List ℕ → ℕ → Bool
 isReader blocks place = eqb (byte (blockAt blocks place) 2) (reader .number)
 
+-- 2, 3 and 5 over the first so many blocks
+pub record Judges (blocks : List ℕ) (count : ℕ) (good placed readers : Bool) : Type 0 where
+  pub goods : good ≡ all count (isGood blocks)
+  pub places : placed ≡ all count (inPlace blocks)
+  pub kinds : readers ≡ all count (isReader blocks)
+
 -- the list: of P racks, as the first block says, over the blocks' pages
 abbrev pub racksOf : List ℕ → ℕ
 racksOf blocks = stampAt blocks 0 .setup .racks

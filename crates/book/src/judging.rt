@@ -2,10 +2,9 @@
 ghost use mathlib.Core.Path.{_≡_};
 ghost use Prim.Native.Nat.{_+_, _*_, _≤_, _<_};
 ghost use lib.ListN.{length};
-ghost use Rattle.below.specs.Below.{all};
 ghost use Rattle.below.specs.Refusals.{granted};
 ghost use Rattle.blocks.specs.Frame.{blockSize};
-ghost use Rattle.book.specs.Book.{blockAt, isWhole, isGood, inPlace, isReader, racksOf, blocksRefusal};
+ghost use Rattle.book.specs.Book.{blockAt, isWhole, isGood, inPlace, isReader, Judges, racksOf, blocksRefusal};
 use below::GRANTED;
 use below::WRONG_MESSAGE;
 use below::both;
@@ -28,6 +27,12 @@ const KIND: usize = 2;
 const RACKS: usize = 3;
 
 const READER: u8 = 20;
+
+struct Judged {
+    good: bool,
+    in_place: bool,
+    readers: bool,
+}
 
 fn wide(x: u8) -> usize
     ensures { λ r. ⌜ r ≡ x ⌝ }
@@ -85,40 +90,24 @@ fn is_reader(blocks: &[u8], place: usize) -> bool
     block[KIND] == READER
 }
 
-fn all_good(blocks: &[u8], count: usize) -> bool
+// What holds of every block: one turn looks at all three.
+fn judge(blocks: &[u8], count: usize) -> Judged
     requires { ⌜ blockSize * count ≤ length (now blocks) ⌝ }
-    ensures { λ r. ⌜ r ≡ all count (isGood (now (blocks .entry))) ⌝ }
+    ensures { λ r. ⌜ Judges (now (blocks .entry)) count (r .good) (r .in_place) (r .readers) ⌝ }
 {
+    let mut good = true;
+    let mut placed = true;
+    let mut readers = true;
     for place in 0..count {
-        if !is_good(blocks, place) {
-            return false;
-        }
+        good = both(good, is_good(blocks, place));
+        placed = both(placed, in_place(blocks, place));
+        readers = both(readers, is_reader(blocks, place));
     }
-    true
-}
-
-fn all_in_place(blocks: &[u8], count: usize) -> bool
-    requires { ⌜ blockSize * count ≤ length (now blocks) ⌝ }
-    ensures { λ r. ⌜ r ≡ all count (inPlace (now (blocks .entry))) ⌝ }
-{
-    for place in 0..count {
-        if !in_place(blocks, place) {
-            return false;
-        }
+    Judged {
+        good,
+        in_place: placed,
+        readers,
     }
-    true
-}
-
-fn all_readers(blocks: &[u8], count: usize) -> bool
-    requires { ⌜ blockSize * count ≤ length (now blocks) ⌝ }
-    ensures { λ r. ⌜ r ≡ all count (isReader (now (blocks .entry))) ⌝ }
-{
-    for place in 0..count {
-        if !is_reader(blocks, place) {
-            return false;
-        }
-    }
-    true
 }
 
 pub fn refusal_of(blocks: &[u8]) -> u8
@@ -127,12 +116,10 @@ pub fn refusal_of(blocks: &[u8]) -> u8
     if !is_whole(blocks) {
         return WRONG_LENGTH;
     }
-    let count = blocks.len() / BLOCK;
-    if !all_good(blocks, count) {
-        return BAD_BLOCK;
-    }
-    let kinds = unless(all_readers(blocks, count), WRONG_MESSAGE, GRANTED);
-    unless(all_in_place(blocks, count), OTHER_HALL, kinds)
+    let all = judge(blocks, blocks.len() / BLOCK);
+    let kinds = unless(all.readers, WRONG_MESSAGE, GRANTED);
+    let places = unless(all.in_place, OTHER_HALL, kinds);
+    unless(all.good, BAD_BLOCK, places)
 }
 
 // P, as the first block says; 0 where there is none.
