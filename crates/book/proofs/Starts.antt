@@ -3,20 +3,21 @@
 use Prim.Native.Nat.{ℕ, zero, suc, _≤_, _<_}
 use native.Mathlib.Omega.{arith}
 use mathlib.Core.Path.{_≡_, refl, sym, ap, subst, _∙_}
-use mathlib.Core.Bool.{Bool, true, false, cond, false≢true}
-use mathlib.Core.Logic.{_⊎_, inl, inr}
+use mathlib.Core.Bool.{Bool, true, false, cond}
+use mathlib.Core.Logic.{_⊎_, inl, inr, ⊎-elim}
 use mathlib.Core.List.{List, [], _∷_, _++_, append-nil, append-assoc}
 use Rattle.below.specs.Below.{row}
-use Rattle.below.proofs.Tests.{all-at}
+use Rattle.below.proofs.Tests.{all-at, decided}
 use Rattle.pages.specs.declared.line.Reading
 use Rattle.pages.specs.declared.line.Mark.{Mark}
 use Rattle.pages.specs.declared.line.Mark.the-variants.{Absent, Nil, Reading as reads}
 use Rattle.pages.specs.declared.page.Page.{Page}
-use Rattle.pages.specs.Lines.{compatibleMark}
+use Rattle.pages.specs.Lines.{isAbsent, compatibleMark}
 use Rattle.pages.specs.Racks.{mostRacks}
 use Rattle.pages.specs.Pages.{at, compatibleOf}
-use Rattle.pages.proofs.Lines.{same-reading}
-use Rattle.book.specs.Lists.{listed, entered, walk, linesOf, listOf}
+use Rattle.pages.proofs.Lines.{compatible-present}
+use Rattle.book.specs.Lists.{listed, entered, marked, walk, linesOf, listOf}
+use Rattle.book.proofs.Walks.{walk-stops, walk-goes}
 
 -- one list is the start of another
 abbrev pub Starts : List ℕ → List ℕ → Type 0
@@ -37,12 +38,18 @@ entered-starts r list = go (listed (r .0) list)
     go true = starts-self list
     go false = (r .0 ∷ [], refl)
 
+marked-starts : (m : Mark) (list : List ℕ) → Starts list (marked m list)
+marked-starts Absent list = starts-self list
+marked-starts Nil list = starts-self list
+marked-starts (reads r) list = entered-starts r list
+
 walk-starts : (lines : List Mark) (list : List ℕ) → Starts list (walk list lines)
 unfolding walk
 walk-starts [] list = starts-self list
-walk-starts (Absent ∷ lines) list = starts-self list
-walk-starts (Nil ∷ lines) list = walk-starts lines list
-walk-starts (reads r ∷ lines) list = starts-trans list (entered r list) (walk (entered r list) lines) (entered-starts r list) (walk-starts lines (entered r list))
+walk-starts (m ∷ lines) list =
+    ⊎-elim (λ h. subst (Starts list) (sym (walk-stops m list lines h)) (starts-self list))
+    (λ h. subst (Starts list) (sym (walk-goes m list lines h)) (starts-trans list (marked m list) (walk (marked m list) lines) (marked-starts m list) (walk-starts lines (marked m list))))
+    (decided (isAbsent m))
 
 -- lines that are compatible one by one, as far as both go
 Agree : List Mark → List Mark → Type 0
@@ -51,19 +58,23 @@ Agree (x ∷ a) [] = Unit
 Agree (x ∷ a) (y ∷ b) = (compatibleMark x y ≡ true) × Agree a b
 
 -- both walks go on together until one stops; then the other has that list as its start
-walks-agree : (a b : List Mark) (list : List ℕ) → Agree a b → Starts (walk list a) (walk list b) ⊎ Starts (walk list b) (walk list a)
-unfolding walk Agree
+Nested : List ℕ → List ℕ → Type 0
+Nested a b = Starts a b ⊎ Starts b a
+
+walks-agree : (a b : List Mark) (list : List ℕ) → Agree a b → Nested (walk list a) (walk list b)
+unfolding walk Agree Nested
 walks-agree [] b list h = inl (walk-starts b list)
 walks-agree (x ∷ a) [] list h = inr (walk-starts (x ∷ a) list)
-walks-agree (Absent ∷ a) (y ∷ b) list h = inl (walk-starts (y ∷ b) list)
-walks-agree (Nil ∷ a) (Absent ∷ b) list h = inr (walk-starts a list)
-walks-agree (Nil ∷ a) (Nil ∷ b) list h = walks-agree a b list (h .1)
-walks-agree (Nil ∷ a) (reads s ∷ b) list h = absurd (false≢true (h .0))
-walks-agree (reads r ∷ a) (Absent ∷ b) list h = inr (walk-starts (reads r ∷ a) list)
-walks-agree (reads r ∷ a) (Nil ∷ b) list h = absurd (false≢true (h .0))
-walks-agree (reads r ∷ a) (reads s ∷ b) list h =
-    subst (λ (x : Reading.Reading). Starts (walk (entered r list) a) (walk (entered x list) b) ⊎ Starts (walk (entered x list) b) (walk (entered r list) a)) (same-reading r s (h .0))
-    (walks-agree a b (entered r list) (h .1))
+walks-agree (x ∷ a) (y ∷ b) list h = ⊎-elim left (λ p. ⊎-elim right (both (walks-agree a b (marked x list) (h .1)) p) (decided (isAbsent y))) (decided (isAbsent x))
+  where
+    left : isAbsent x ≡ true → Nested (walk list (x ∷ a)) (walk list (y ∷ b))
+    left p = inl (subst (λ (l : List ℕ). Starts l (walk list (y ∷ b))) (sym (walk-stops x list a p)) (walk-starts (y ∷ b) list))
+
+    right : isAbsent y ≡ true → Nested (walk list (x ∷ a)) (walk list (y ∷ b))
+    right q = inr (subst (λ (l : List ℕ). Starts l (walk list (x ∷ a))) (sym (walk-stops y list b q)) (walk-starts (x ∷ a) list))
+
+    both : Nested (walk (marked x list) a) (walk (marked x list) b) → isAbsent x ≡ false → isAbsent y ≡ false → Nested (walk list (x ∷ a)) (walk list (y ∷ b))
+    both t p q = rw (walk-goes x list a p, walk-goes y list b q, ← compatible-present x y (h .0) p q) t
 
 agree-none : (a : List Mark) → Agree a []
 unfolding Agree
@@ -86,4 +97,5 @@ module _ (racks : ℕ) (few : racks ≤ mostRacks) where
 
   pub one-starts-the-other : (n m : ℕ) (f g : ℕ → Page) → ((k : ℕ) → k < n → k < m → compatibleOf (f k) (g k) ≡ true) →
       Starts (listOf racks (row n f)) (listOf racks (row m g)) ⊎ Starts (listOf racks (row m g)) (listOf racks (row n f))
+  unfolding Nested
   one-starts-the-other n m f g h = walks-agree (linesOf racks (row n f)) (linesOf racks (row m g)) [] (agree-pages n m f g h)

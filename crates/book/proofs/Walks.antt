@@ -18,13 +18,13 @@ use Rattle.pages.specs.Pages.{at}
 use Rattle.book.specs.Lists.{walk, marked, linesOf, listOf, Walked, Entered}
 
 -- one line: it stops the walk or is entered
-walk-stops : (m : Mark) (list : List ℕ) (lines : List Mark) → isAbsent m ≡ true → walk list (m ∷ lines) ≡ list
+pub walk-stops : (m : Mark) (list : List ℕ) (lines : List Mark) → isAbsent m ≡ true → walk list (m ∷ lines) ≡ list
 unfolding walk
 walk-stops Absent list lines h = refl
 walk-stops Nil list lines h = absurd (false≢true h)
 walk-stops (reads r) list lines h = absurd (false≢true h)
 
-walk-goes : (m : Mark) (list : List ℕ) (lines : List Mark) → isAbsent m ≡ false → walk list (m ∷ lines) ≡ walk (marked m list) lines
+pub walk-goes : (m : Mark) (list : List ℕ) (lines : List Mark) → isAbsent m ≡ false → walk list (m ∷ lines) ≡ walk (marked m list) lines
 unfolding walk
 walk-goes Absent list lines h = absurd (true≢false h)
 walk-goes Nil list lines h = refl
