@@ -1,6 +1,6 @@
 // The lent blocks: how many, each at its place, and the refusals before the list, each over all.
 ghost use mathlib.Core.Path.{_≡_};
-ghost use Prim.Native.Nat.{_+_, _*_, _≤_, _<_};
+ghost use Prim.Native.Nat.{_+_, _*_, _≤_};
 ghost use lib.ListN.{length};
 ghost use Rattle.below.specs.Refusals.{granted};
 ghost use Rattle.blocks.specs.Frame.{blockSize};
@@ -22,9 +22,9 @@ const OTHER_HALL: u8 = 3;
 pub const MOST_BLOCKS: usize = 64;
 
 // Where a block says its kind and P, and the kind of a reader's.
-const KIND: usize = 2;
+const KIND_AT: usize = 2;
 
-const RACKS: usize = 3;
+const RACKS_AT: usize = 3;
 
 const READER: u8 = 20;
 
@@ -87,7 +87,7 @@ fn is_reader(blocks: &[u8], place: usize) -> bool
     ensures { λ r. ⌜ r ≡ isReader (now (blocks .entry)) place ⌝ }
 {
     let block = block_at(blocks, place);
-    block[KIND] == READER
+    block[KIND_AT] == READER
 }
 
 // What holds of every block: one turn looks at all three.
@@ -126,8 +126,8 @@ pub fn refusal_of(blocks: &[u8]) -> u8
 pub fn racks_of(blocks: &[u8]) -> usize
     ensures { λ r. ⌜ r ≡ racksOf (now (blocks .entry)) ⌝ }
 {
-    if RACKS < blocks.len() {
-        wide(blocks[RACKS])
+    if RACKS_AT < blocks.len() {
+        wide(blocks[RACKS_AT])
     } else {
         0
     }
