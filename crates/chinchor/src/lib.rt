@@ -1,10 +1,11 @@
 // The C interface, declared and documented in include/chinchor.h: nothing but exported functions over
 // the others. In C each lent buffer is a pointer, then its length.
-ghost use mathlib.Core.Path.{_≡_};
+
 ghost use Rattle.rounds.specs.Setups.{setupOf};
 ghost use Rattle.hall.specs.Halls.{Sets};
 ghost use Rattle.hall.specs.Steps.{Steps};
 ghost use Rattle.box_step.specs.BoxSteps.{BoxSteps};
+ghost use Rattle.chinchor.specs.Answers.{BooksInC};
 
 // One step on three separate buffers: the row, the message read, the message sent.
 #[no_mangle]
@@ -57,4 +58,13 @@ pub extern "C" fn chinchor_hall_step(
     ensures { λ r. ⌜ Steps (now (hall .entry)) (now (hall .exit)) (record { code = code; agent = agent; message = number; n = n; c = c; cf = cf; reading = reading }) r ⌝ }
 {
     hall_step::step(hall, code, agent, number, n, c, cf, reading)
+}
+
+// The list of readings out of the blocks of one reader: the answer and 65,536 times the count.
+#[no_mangle]
+pub extern "C" fn chinchor_book(blocks: &[u8], list: &mut [u32]) -> u64
+    ensures { λ r. ⌜ BooksInC (now (blocks .entry)) (now (list .entry)) (now (list .exit)) r ⌝ }
+{
+    let booked = book::book(blocks, list);
+    booked.refusal as u64 + 65536 * booked.count as u64
 }

@@ -1,3 +1,4 @@
 pub mod Parts
 pub mod Stepping
 pub mod HeadRead
+pub mod Unique
