@@ -5,11 +5,8 @@
  *
  * It is for machines that the library's archive is not made for: this program
  * then runs under an emulator, and the agreement program beside it natively.
- * Freestanding and for x86-64 Linux, like the archive, which asks for nothing
- * but memcpy, memmove and memset:
- *
- *   clang --target=x86_64-linux-gnu -O2 -ffreestanding -fno-stack-protector \
- *         -nostdlib -static -fuse-ld=lld -o answerer answerer.c libchinchor.a
+ * Without a C library and for x86-64 Linux, like the archive; `agreement` builds
+ * and starts it.
  *
  * A call is eleven words of four bytes: the function (1 setup, 2 hall step,
  * 3 box step, 4 book), its seven numbers (0 for the book) and the lengths in
@@ -18,20 +15,7 @@
  * was lent, as it is after the call. All numbers are little-endian. A call that
  * touches bytes around what it is lent ends the program with status 3.
  */
-#include <stddef.h>
-#include <stdint.h>
-
-uint32_t chinchor_box_step(uint8_t *row, size_t row_len, const uint8_t *message,
-                           size_t message_len, uint8_t *sent, size_t sent_len, uint32_t code,
-                           uint32_t agent, uint32_t message_number, uint32_t n, uint32_t c,
-                           uint32_t cf, uint32_t reading);
-uint32_t chinchor_hall_setup(uint8_t *hall, size_t hall_len, uint32_t instance, uint32_t racks,
-                             uint32_t boxes, uint32_t coordinators, uint32_t readers, uint32_t c0,
-                             uint32_t cf0);
-uint32_t chinchor_hall_step(uint8_t *hall, size_t hall_len, uint32_t code, uint32_t agent,
-                            uint32_t message_number, uint32_t n, uint32_t c, uint32_t cf,
-                            uint32_t reading);
-uint64_t chinchor_book(const uint8_t *blocks, size_t blocks_len, uint32_t *list, size_t list_len);
+#include "chinchor.h"
 
 enum { ROOM = 1 << 17, GUARD = 64, PAINT = 0xee };
 

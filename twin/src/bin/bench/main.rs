@@ -9,7 +9,7 @@ mod stack;
 
 use cases::{Case, Input};
 use clock::{best, floor, Floor};
-use twin::calls::{Calls, IS_LINKED, LIBRARY, TWIN};
+use twin::calls::{Calls, IS_LINKED, LIBRARY, NOTHING, TWIN};
 use twin::layout::*;
 
 fn main() {
@@ -77,7 +77,7 @@ fn stacks(cases: &[Case]) {
 
 /// How much deeper a call goes than one to functions that do nothing.
 fn depth(case: &Case, calls: &Calls) -> usize {
-    used(case, calls).saturating_sub(used(case, &stack::NOTHING))
+    used(case, calls).saturating_sub(used(case, &NOTHING))
 }
 
 /// The stack that a call uses, caller and all, after one that has settled what

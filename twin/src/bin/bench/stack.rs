@@ -6,8 +6,6 @@
 use std::ptr;
 use std::sync::atomic::{AtomicPtr, Ordering};
 
-use twin::calls::Calls;
-
 const DEPTH: usize = 256 * 1024;
 
 /// The start of the C library's ucontext_t, and room for the rest of it.
@@ -37,45 +35,6 @@ extern "C" fn entry() {
     // waits for it.
     unsafe { (*JOB.load(Ordering::Relaxed))() }
 }
-
-/// Functions that do nothing, to tell how much the call itself takes.
-pub const NOTHING: Calls = {
-    extern "C" fn hall(
-        _: *mut u8,
-        _: usize,
-        _: u32,
-        _: u32,
-        _: u32,
-        _: u32,
-        _: u32,
-        _: u32,
-        _: u32,
-    ) -> u32 {
-        0
-    }
-    extern "C" fn c(
-        _: *mut u8,
-        _: usize,
-        _: *const u8,
-        _: usize,
-        _: *mut u8,
-        _: usize,
-        _: u32,
-        _: u32,
-        _: u32,
-        _: u32,
-        _: u32,
-        _: u32,
-        _: u32,
-    ) -> u32 {
-        0
-    }
-    extern "C" fn book(_: *const u8, _: usize, _: *mut u32, _: usize) -> u64 {
-        0
-    }
-    // SAFETY: they touch nothing.
-    unsafe { Calls::new(hall, hall, c, book) }
-};
 
 /// Bytes of stack that the job uses; the deeper of two paints, since a byte
 /// may by chance be left as it was painted.
