@@ -1,10 +1,13 @@
 -- Laws of the check words: one turn of the loop that adds them up, and words that agree.
-use Prim.Native.Nat.{ℕ, zero, suc, _+_, _%_, _^_, _≤_, _<_}
+use Prim.Native.Nat.{ℕ, zero, suc, _+_, _*_, _%_, _^_, _≤_, _<_}
 use native.Mathlib.Omega.{arith}
 use native.Mathlib.Nat.{le-antisymm}
 use native.Mathlib.Numerals.{add-one}
 use mathlib.Core.Path.{_≡_, refl, ap, subst, _∙_}
 use Rattle.words.specs.Sums.{words, firstSum, secondSum}
+
+pair : (k : ℕ) → 2 * k + 1 + 1 ≡ 2 * (k + 1)
+pair k = omega arith
 
 module _ (word : ℕ → ℕ) where
   pub sums-start : (1 ≡ firstSum 0 word) × (0 ≡ secondSum 0 word)
@@ -19,8 +22,15 @@ module _ (word : ℕ → ℕ) where
   unfolding secondSum
   second-more {f} {s} {r} k p q e = rw (add-one k, ← p) (e ∙ ap (λ (x : ℕ). (s + x) % 2 ^ 32) (q ∙ ap (λ (j : ℕ). firstSum j word) (add-one k)))
 
-  pub sums-ends : {f s : ℕ} (k : ℕ) → f ≡ firstSum k word → s ≡ secondSum k word → k ≤ words → words ≤ k → (f ≡ firstSum words word) × (s ≡ secondSum words word)
-  sums-ends {f} {s} k p q a b = (subst (λ (j : ℕ). f ≡ firstSum j word) (le-antisymm a b) p, subst (λ (j : ℕ). s ≡ secondSum j word) (le-antisymm a b) q)
+  -- two turns in one
+  pub first-pair : {f : ℕ} (k : ℕ) → f ≡ firstSum (2 * k + 1 + 1) word → f ≡ firstSum (2 * (k + 1)) word
+  first-pair {f} k h = subst (λ (j : ℕ). f ≡ firstSum j word) (pair k) h
+
+  pub second-pair : {s : ℕ} (k : ℕ) → s ≡ secondSum (2 * k + 1 + 1) word → s ≡ secondSum (2 * (k + 1)) word
+  second-pair {s} k h = subst (λ (j : ℕ). s ≡ secondSum j word) (pair k) h
+
+  pub sums-ends : {f s : ℕ} (k : ℕ) → f ≡ firstSum (2 * k) word → s ≡ secondSum (2 * k) word → k ≤ 63 → 63 ≤ k → (f ≡ firstSum words word) × (s ≡ secondSum words word)
+  sums-ends {f} {s} k p q a b = (subst (λ (j : ℕ). f ≡ firstSum (2 * j) word) (le-antisymm a b) p, subst (λ (j : ℕ). s ≡ secondSum (2 * j) word) (le-antisymm a b) q)
 
 -- words that agree have the same sums
 pub first-same : (n : ℕ) (v w : ℕ → ℕ) → ((k : ℕ) → k < n → v k ≡ w k) → firstSum n v ≡ firstSum n w

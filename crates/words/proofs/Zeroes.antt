@@ -3,7 +3,7 @@ use Prim.Native.Nat.{ℕ, zero, suc, _+_, _*_, _-_, _≤_, _<_}
 use native.Mathlib.Omega.{arith}
 use native.Mathlib.Nat.{add-assoc, add-zero, le-antisymm}
 use mathlib.Core.Path.{_≡_, refl, sym, ap, subst, _∙_}
-use mathlib.Core.Bool.{true, false, _&&_}
+use mathlib.Core.Bool.{Bool, true, false, _&&_}
 use mathlib.Core.List.{List, [], _∷_}
 use lib.Dec.{eqb}
 use lib.ListN.{length, length-replicate, replicate-append-replicate}
@@ -67,14 +67,26 @@ module _ (bytes : List ℕ) where
   pub zero-left : (n k at : ℕ) → k < n → (byte bytes (at + k) ≡ 0 → ⊥) → false ≡ zeroAt n bytes at
   zero-left n k at l h = sym (not-true-false (zeroAt n bytes at) (λ a. h (zero-at n at a k l)))
 
-  pub words-more : (k at : ℕ) → zeroAt (4 * k) bytes at ≡ true → number4 bytes (at + 4 * k) ≡ 0 → zeroAt (4 * (k + 1)) bytes at ≡ true
-  words-more k at h e =
-      ap (λ (n : ℕ). zeroAt n bytes at) (omega arith) ∙ zero-parts (4 * k) 4 at ∙ and-true h (zero-word (at + 4 * k) ∙ eq-eqb _ _ e)
+  -- the loop that sums words: the sum is zero exactly if they are
+  pub words-start : (at : ℕ) → eqb 0 0 ≡ zeroAt 0 bytes at
+  words-start at = sym (zero-start at)
 
-  pub words-left : (n k at : ℕ) → k < n → (number4 bytes (at + 4 * k) ≡ 0 → ⊥) → false ≡ zeroAt (4 * n) bytes at
-  words-left n k at l h =
-      sym (not-true-false (zeroAt (4 * n) bytes at) (λ a. h (eqb-true _ _ (sym (zero-word (at + 4 * k)) ∙ zero-true 4 (at + 4 * k)
-      (λ j m. ap (λ (i : ℕ). byte bytes i) (add-assoc at (4 * k) j) ∙ zero-at (4 * n) at a (4 * k + j) (omega arith))))))
+  pub words-turn : (k at total x : ℕ) {w : ℕ} → eqb total 0 ≡ zeroAt (4 * k) bytes at → x ≡ w → w ≡ number4 bytes (at + 4 * k) → eqb (total + x) 0 ≡ zeroAt (4 * (k + 1)) bytes at
+  words-turn k at total x p q e =
+      sum-zero total x ∙ ap (λ (b : Bool). b && eqb x 0) p ∙ ap (λ (y : ℕ). zeroAt (4 * k) bytes at && eqb y 0) (q ∙ e) ∙
+      ap (λ (b : Bool). zeroAt (4 * k) bytes at && b) (sym (zero-word (at + 4 * k))) ∙ sym (zero-parts (4 * k) 4 at) ∙ ap (λ (n : ℕ). zeroAt n bytes at) next
+    where
+      next : 4 * k + 4 ≡ 4 * (k + 1)
+      next = omega arith
+
+      sum-zero : (a b : ℕ) → eqb (a + b) 0 ≡ eqb a 0 && eqb b 0
+      sum-zero a b =
+          same-yes (eqb (a + b) 0) (eqb a 0 && eqb b 0)
+          (λ h. let z : a + b ≡ 0 = eqb-true _ _ h in and-true (eq-eqb a 0 (omega arith)) (eq-eqb b 0 (omega arith)))
+          (λ h. let y : a ≡ 0 = eqb-true _ _ (and-left (eqb a 0) _ h) in let z : b ≡ 0 = eqb-true _ _ (and-right (eqb a 0) _ h) in eq-eqb (a + b) 0 (omega arith))
+
+  pub words-ends : (n k at total : ℕ) → eqb total 0 ≡ zeroAt (4 * k) bytes at → k ≤ n → n ≤ k → eqb total 0 ≡ zeroAt (4 * n) bytes at
+  words-ends n k at total h a b = subst (λ (m : ℕ). eqb total 0 ≡ zeroAt (4 * m) bytes at) (le-antisymm a b) h
 
   pub zero-ends : (f : ℕ → ℕ) (n k at : ℕ) → zeroAt (f k) bytes at ≡ true → k ≤ n → n ≤ k → true ≡ zeroAt (f n) bytes at
   zero-ends f n k at h a b = subst (λ (m : ℕ). true ≡ zeroAt (f m) bytes at) (le-antisymm a b) (sym h)

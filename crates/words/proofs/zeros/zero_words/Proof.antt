@@ -1,26 +1,47 @@
 use Prim.Native.Nat.{_≤_, _-_, _*_}
-use mathlib.Core.Path.{_≡_, sym, _∙_}
-use mathlib.Core.Bool.{true}
+use mathlib.Core.Path.{_≡_}
+use lib.Dec.{eqb}
+use native.Mathlib.Omega.{arith}
 use Rattle.words.specs.Bytes.{zeroAt}
-use Rattle.words.proofs.Zeroes.{zero-start, words-more, words-left, zero-ends}
+use Rattle.words.proofs.Zeroes.{words-start, words-turn, words-ends}
 use borrow.Author.Needs.{needs}
 use Rattle.words.proofs.zeros.zero_words.Statement.{statement}
 use Rattle.words.proofs.zeros.zero_words.Tie as tie
 
 abbrev Inv-loop : tie.InvT-loop
-Inv-loop bytes at n k₀ k = (k ≤ n) × (zeroAt (4 * k) bytes at ≡ true)
+Inv-loop bytes at n total₀ k₀ total k = (k ≤ n) × ((total ≤ k * 4294967296) × (eqb total 0 ≡ zeroAt (4 * k) bytes at))
 
 abbrev μ-loop : tie.MeasureT-loop
-μ-loop bytes at n k₀ k = n - k
+μ-loop bytes at n total₀ k₀ total k = n - k
 
-returns : tie.Need-returns Inv-loop μ-loop
-returns c = words-left _ _ _ _ (search needs) (λ e. (c .if1 .taken) ((c .before .get-u32 .ensures) ∙ e))
+loop-holds : tie.Need-loop-holds Inv-loop μ-loop
+loop-holds c = (search needs, (search needs, words-start _ _))
+
+get-u32-requires : tie.Need-get-u32-requires Inv-loop μ-loop
+get-u32-requires c κs = omega (arith, (c .before .before .before .pre .0))
+
+add-total : tie.Need-add-total Inv-loop μ-loop
+add-total c = omega (arith, (c .before .before .before .loop .inv .0), (c .before .before .before .loop .inv .1 .0), (c .wide .ensures .1), (c .before .before .before .before .before .pre .1))
 
 loop-again : tie.Need-loop-again Inv-loop μ-loop
-loop-again c = (search needs, words-more _ _ _ (c .before .before .before .loop .inv .1) (sym (c .before .get-u32 .ensures) ∙ (c .if1 .left)))
+loop-again c = (search needs, (omega (arith, (c .before .before .before .loop .inv .1 .0), (c .wide .ensures .1)), words-turn _ _ _ (c .before .before .before .loop .total) _ (c .before .before .before .loop .inv .1 .1) (c .wide .ensures .0) (c .before .get-u32 .ensures)))
 
-returns-2 : tie.Need-returns-2 Inv-loop μ-loop
-returns-2 c = zero-ends _ (λ m. 4 * m) _ _ _ (c .before .loop .inv .1) (search needs) (search needs)
+returns : tie.Need-returns Inv-loop μ-loop
+returns c = words-ends _ _ _ _ (c .before .loop .total) (c .before .loop .inv .1 .1) (search needs) (search needs)
 
 pub zero-words-spec : {M : Type 1} → statement M
-zero-words-spec = tie.close (tie.spec Inv-loop μ-loop (λ c. (search needs, zero-start _ _)) (λ c. search needs) (λ c. search needs) (λ c κs. search needs) returns (λ c. search needs) (λ c. search needs) loop-again returns-2)
+zero-words-spec =
+    tie.close
+    (tie.spec
+    Inv-loop
+    μ-loop
+    loop-holds
+    (λ c. search needs)
+    (λ c. search needs)
+    get-u32-requires
+    (λ c κs. search needs)
+    add-total
+    (λ c. search needs)
+    (λ c. search needs)
+    loop-again
+    returns)
