@@ -1,6 +1,5 @@
 /*
- * A board without a C library: x86-64 Linux, by its system calls alone. It starts `main`, prints,
- * and has the three functions that the library asks of the program it is linked into.
+ * A board without a C library: x86-64 Linux, by its system calls alone. It starts `main` and prints.
  */
 #include "board.h"
 
@@ -51,27 +50,4 @@ __attribute__((force_align_arg_pointer, noreturn)) void _start(void)
     int status = main();
     for (;;)
         system_call(EXIT, status, 0, 0);
-}
-
-void *memcpy(void *to, const void *from, size_t length)
-{
-    for (size_t at = 0; at < length; at++)
-        ((uint8_t *)to)[at] = ((const uint8_t *)from)[at];
-    return to;
-}
-
-void *memmove(void *to, const void *from, size_t length)
-{
-    if ((uintptr_t)to <= (uintptr_t)from)
-        return memcpy(to, from, length);
-    while (length-- > 0)
-        ((uint8_t *)to)[length] = ((const uint8_t *)from)[length];
-    return to;
-}
-
-void *memset(void *to, int byte, size_t length)
-{
-    for (size_t at = 0; at < length; at++)
-        ((uint8_t *)to)[at] = (uint8_t)byte;
-    return to;
 }

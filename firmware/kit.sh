@@ -15,11 +15,12 @@ emulator=$tools/bin/qemu-x86_64
 link_with_chinchor() {
     program=$1 objects=''
     shift
-    for source in "$@"; do
+    for source in "$@" "$root/firmware/memory"; do
+        object=$program.$(basename "$source").o
         "$tools/bin/clang" --target=x86_64-linux-gnu -std=c99 -Wall -Wextra -Wpedantic -Werror -O2 \
             -ffreestanding -fno-stack-protector -nostdinc -isystem "$(cc -print-file-name=include)" \
-            -I "$root/include" -c -o "$program.$source.o" "$source.c" || return
-        objects="$objects $program.$source.o"
+            -I "$root/include" -c -o "$object" "$source.c" || return
+        objects="$objects $object"
     done
     # shellcheck disable=SC2086
     "$tools/bin/ld.lld" -static -o "$program" $objects "$root/target/staticlib/libchinchor.a"

@@ -1,10 +1,10 @@
 -- The C step, by the ways through its code.
-use Prim.Native.Nat.{ℕ, _≤_}
+use Prim.Native.Nat.{ℕ}
 use native.Mathlib.Omega.{arith}
-use lib.Dec.{eqb, ltb}
+use lib.Dec.{eqb}
 use lib.ListN.{length, take, drop, drop-of-length-le}
 use lib.Seq.{take-all}
-use borrow.Author.Tests.{eq-eqb, ne-eqb, eqb-true, eqb-false, ltb-true, leb-true}
+use borrow.Author.Tests.{eq-eqb, ne-eqb, eqb-true, eqb-false}
 use mathlib.Core.Path.{_≡_, refl, sym, ap, subst, _∙_}
 use mathlib.Core.Bool.{Bool, true, false, cond, _&&_, false≢true}
 use mathlib.Core.List.{List, _++_, append-nil}
@@ -25,8 +25,8 @@ use Rattle.acts.specs.declared.numbers.Numbers.{Numbers}
 use Rattle.acts.specs.Acts.{Act}
 use Rattle.acts.specs.Named.{badBlock, stampOf, ownAct, namedRefusal}
 use Rattle.acts.specs.Answers.{Acts, stepOf}
-use Rattle.hall.specs.Halls.{wrongLength, outOfRange}
-use Rattle.hall.specs.Steps.{isCode, noSuchStep, numbersInRange}
+use Rattle.hall.specs.Halls.{outOfRange}
+use Rattle.hall.specs.Steps.{isCode, numbersInRange}
 use Rattle.step_numbers.specs.Narrowed.{narrowed}
 use Rattle.step_numbers.proofs.SameAct.{same-act, same-named}
 use Rattle.box_step.specs.BoxSteps.{isBlock, rangeRefusal, boxRefusal, boxRowAfter, boxSentAfter, BoxSteps}
@@ -172,6 +172,3 @@ pub copied : (from to after : List ℕ) → length from ≡ blockSize → length
 copied from to after f t e =
     e ∙ ap (λ (l : List ℕ). l ++ drop (length from) to) (take-all (length from) from (omega arith)) ∙
     ap (λ (l : List ℕ). from ++ l) (drop-of-length-le to {i = length from} (omega (arith, t, f))) ∙ append-nil from
-
-pub code-range : (code : ℕ) → isCode code ≡ true → (1 ≤ code) × (code ≤ 13)
-code-range code h = (ltb-true 0 code (and-left (ltb 0 code) _ h), leb-true code 13 (and-right (ltb 0 code) _ h))

@@ -1,4 +1,5 @@
 pub mod FreshBlocks
 pub mod SettingUp
 pub mod Cells
+pub mod StepFacts
 pub mod Unique

@@ -1,13 +1,13 @@
 -- Setup, by the ways through its code; and that numbers in range fit the bytes they are kept in.
-use Prim.Native.Nat.{ℕ, _<_}
+use Prim.Native.Nat.{ℕ}
 use native.Mathlib.Omega.{arith}
-use lib.Dec.{leb, eqb}
+use lib.Dec.{leb}
 use lib.ListN.{length}
 use borrow.Author.Tests.{eq-eqb, ne-eqb, leb-true, not-true, not-false}
-use mathlib.Core.Path.{_≡_, refl, sym, ap, _∙_}
+use mathlib.Core.Path.{_≡_, sym, ap, _∙_}
 use mathlib.Core.Bool.{Bool, true, false, not, _&&_}
 use mathlib.Core.List.{List}
-use mir.Syntax.{w8, w16}
+use mir.Syntax.{w16}
 use mir.Val.{Fits}
 use Rattle.below.proofs.Tests.{and-left, and-right}
 use Rattle.rounds.specs.declared.setup.Setup.{Setup}

@@ -1,19 +1,18 @@
 -- A hall: 118 blocks, 60,416 bytes: head, 4 coordinators, 5 boxes, 8 racks, 4 readers, 96 messages.
-use Prim.Native.Nat.{ℕ, _+_, _*_, _-_}
+use Prim.Native.Nat.{ℕ, _*_, _-_}
 use lib.Dec.{leb, ltb, eqb}
 use lib.ListN.{length, take, drop}
 use mathlib.Core.Path.{_≡_}
-use mathlib.Core.Bool.{Bool, cond, _&&_}
+use mathlib.Core.Bool.{cond, _&&_}
 use mathlib.Core.List.{List}
 use Rattle.below.specs.Below.{row}
 use Rattle.below.specs.Refusals.{unless, granted}
 use Rattle.pages.specs.declared.line.Mark.the-variants.{Absent}
 use Rattle.pages.specs.Pages.{line, empty, none, some}
 use Rattle.rounds.specs.declared.setup.Setup.{Setup}
-use Rattle.rounds.specs.Setups.{setupOf, setupInRange, mostBoxes, mostRacks}
+use Rattle.rounds.specs.Setups.{setupInRange, mostBoxes, mostRacks}
 use Rattle.rounds.specs.Rounds.{zeroOf}
 use Rattle.records.specs.Slots.{noHeard, noHeld, noBlank}
-use Rattle.records.specs.declared.stamp.Stamp.{Stamp}
 use Rattle.records.specs.declared.rows.CoordinatorRow.{CoordinatorRow}
 use Rattle.records.specs.declared.rows.BoxRow.{BoxRow}
 use Rattle.records.specs.declared.rows.RackRow.{RackRow}

@@ -1,15 +1,13 @@
 -- The hall's step as far as the head and the numbers say: 1, 2, 4 and 11, or on to the blocks that it names.
 use Prim.Native.Nat.{ℕ}
 use native.Mathlib.Omega.{arith}
-use lib.Dec.{eqb}
 use lib.ListN.{length}
 use borrow.Author.Tests.{eq-eqb, not-true, not-false}
-use mathlib.Core.Path.{_≡_, refl, sym, ap, subst, _∙_}
+use mathlib.Core.Path.{_≡_, refl, sym, ap, _∙_}
 use mathlib.Core.Bool.{Bool, true, false, cond, not}
 use mathlib.Core.List.{List}
 use Rattle.records.specs.declared.stamp.Stamp.{Stamp}
 use Rattle.records.specs.declared.rows.Head.{Head}
-use Rattle.blocks.specs.Frame.{blockSize}
 use Rattle.blocks.specs.Kinds.{good}
 use Rattle.blocks.specs.Answers.{Reads}
 use Rattle.row_blocks.specs.Rows.{head}

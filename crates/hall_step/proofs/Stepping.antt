@@ -1,17 +1,16 @@
 -- The hall's step, by the ways through its code.
-use Prim.Native.Nat.{ℕ, _+_, _*_, _≤_, _<_}
+use Prim.Native.Nat.{ℕ, _+_, _≤_, _<_}
 use native.Mathlib.Omega.{arith}
-use lib.Dec.{eqb, leb, ltb}
+use lib.Dec.{eqb, leb}
 use lib.ListN.{length}
 use borrow.Author.Tests.{eq-eqb, ne-eqb, ltb-true, leb-true}
 use mathlib.Core.Path.{_≡_, refl, sym, ap, subst, _∙_}
-use mathlib.Core.Bool.{Bool, true, false, cond, not, _&&_, _||_, false≢true}
+use mathlib.Core.Bool.{Bool, true, false, cond, not, false≢true}
 use mathlib.Core.Logic.{⊎-elim}
 use mathlib.Core.List.{List}
 use Rattle.below.specs.Refusals.{unless, granted}
 use Rattle.below.proofs.Tests.{and-left, and-right, or-cases}
 use borrow.Rule.Slice.PartMut.{putMid}
-use Rattle.rounds.specs.declared.setup.Setup.{Setup}
 use Rattle.rounds.specs.Setups.{setupInRange}
 use Rattle.records.specs.declared.stamp.Stamp.{Stamp}
 use Rattle.records.specs.Rules.{stampRules, headRules}
@@ -32,7 +31,8 @@ use Rattle.step_numbers.specs.Narrowed.{narrowed}
 use Rattle.hall.proofs.Cells.{put-length}
 use Rattle.hall_step.specs.Reached.{Reached}
 use Rattle.hall_step.proofs.Parts.{put-part}
-use Rattle.step_numbers.proofs.StepNumbers.{row-within, exists-code, exists-agent, message-within}
+use Rattle.hall.proofs.StepFacts.{exists-code, exists-agent, code-range}
+use Rattle.step_numbers.proofs.StepNumbers.{row-within, message-within}
 use Rattle.step_numbers.proofs.SameAct.{same-act, same-named}
 
 module _ (hall : List ℕ) (x : Step) where
@@ -80,9 +80,8 @@ module _ (hall : List ℕ) (x : Step) where
     few = leb-true _ _ (subst (λ (n : ℕ). leb n mostMessages ≡ true) (sym (r .counted)) (and-right (stampRules (headOf hall) 1) _ rules))
 
     -- what the step names lies within the hall
-    pub code-range : (1 ≤ x .code) × (x .code ≤ 13)
-    code-range =
-        let e = exists-code (stamp .setup) count x (r .exists) in (ltb-true 0 (x .code) (and-left (ltb 0 (x .code)) _ e), leb-true (x .code) 13 (and-right (ltb 0 (x .code)) _ e))
+    pub code-within : (1 ≤ x .code) × (x .code ≤ 13)
+    code-within = code-range (x .code) (exists-code (stamp .setup) count x (r .exists))
 
     pub place-within : {first : ℕ} → first ≡ rowsAt (x .code) → first + x .agent < messagesAt
     place-within e = subst (λ (n : ℕ). n + x .agent < messagesAt) (sym e) (row-within (stamp .setup) setup-small x (exists-agent (stamp .setup) count x (r .exists)))

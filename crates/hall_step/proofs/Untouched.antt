@@ -3,10 +3,10 @@ use Prim.Native.Nat.{ℕ, _+_, _<_}
 use native.Mathlib.Omega.{arith}
 use lib.Dec.{eqb}
 use lib.ListN.{length}
-use borrow.Author.Tests.{eqb-true, eqb-false, ltb-true}
+use borrow.Author.Tests.{eqb-true, ltb-true}
 use mathlib.Core.Path.{_≡_, refl, sym, ap, _∙_}
 use mathlib.Core.Logic.{_≢_}
-use mathlib.Core.Bool.{Bool, true, false, cond, not, _&&_, _||_}
+use mathlib.Core.Bool.{Bool, true, false, cond, not, _||_}
 use mathlib.Core.List.{List}
 use Rattle.below.specs.Refusals.{unless, granted}
 use Rattle.below.proofs.Granted.{unless-held, unless-later}
@@ -19,17 +19,11 @@ use Rattle.acts.specs.declared.step.Step.{Step}
 use Rattle.acts.specs.Named.{badBlock, otherHall, isGood, stampOf, sameHall, names, ownAct, ownRow, namedRefusal}
 use Rattle.hall.specs.Halls.{wrongLength, outOfRange, hallSize, blocksOfHall, messagesAt, blockAt}
 use Rattle.hall.specs.Steps.{noSuchStep, stepExists, numbersInRange, headOf, countOf, rowPlace, rowOf, messageOf, hallAct, hallFor, postFull, mostMessages, fits, hallRefusal, putBlock, posted, granting, hallAfter}
+use Rattle.hall.proofs.StepFacts.{own-number}
 use Rattle.hall.proofs.Cells.{length-block, put-length, put-other}
 use Rattle.hall_step.specs.Reached.{Reached}
-use Rattle.hall_step.proofs.ActSizes.{Sized, act-sized}
+use Rattle.hall_step.proofs.ActSizes.{act-sized}
 use Rattle.hall_step.proofs.Stepping.{place-within}
-
-own-number : (n later : ℕ) → unless (eqb n granted) n later ≡ granted → (n ≡ granted) × (later ≡ granted)
-own-number n later h = go (eqb n granted) refl h
-  where
-    go : (b : Bool) → eqb n granted ≡ b → unless b n later ≡ granted → (n ≡ granted) × (later ≡ granted)
-    go true e k = (eqb-true _ _ e, k)
-    go false e k = absurd (eqb-false _ _ e k)
 
 module _ (hall : List ℕ) (x : Step) (g : hallRefusal hall x ≡ granted) where
   number : ℕ

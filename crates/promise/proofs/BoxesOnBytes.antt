@@ -28,7 +28,8 @@ use Rattle.safety.proofs.StepsKeep as Grants
 use Rattle.safety.proofs.PagesChange.{box-apart}
 use Rattle.promise.proofs.GoodBlocks.{stampFor, good-agent, good-rules}
 use Rattle.promise.proofs.GoodHalls.{GoodHall}
-use Rattle.promise.proofs.HallNumbers.{HallGranted, named-agent, named-number}
+use Rattle.hall.proofs.StepFacts.{exists-agent, exists-message}
+use Rattle.promise.proofs.HallNumbers.{HallGranted}
 use Rattle.promise.proofs.OneStep.{box-row, one-a-post, one-b-post, two-s-post, two-a-post, two-b-post, sending-done}
 use Rattle.promise.proofs.Stepped.{stepOf, Stepped, by-other, handed}
 
@@ -49,9 +50,9 @@ module _ {instance : ℕ} {s : Setup} {count : ℕ} {hall : List ℕ} (g : GoodH
   unfolding actOf joinAct rowsAt agentsFor
   join-stepped f =
       let x : Step = stepOf 3 a j n c cf v in
-      let l : a < s .boxes = named-agent g x (f .exists) in
+      let l : a < s .boxes = exists-agent s count x (f .exists) in
       let b =
-      handed g x f Rows.box (boxesAt + a) Sent.oneA _ oneA one-a-post j (named-number g x (f .exists) refl)
+      handed g x f Rows.box (boxesAt + a) Sent.oneA _ oneA one-a-post j (exists-message s count x (f .exists) refl)
       (λ r m. sending Rows.box Sent.oneB (stampFor instance s a) (joinOf r m .refusal) (joinOf r m .row) (joinOf r m .sent)) refl in
       let m : OneA = bodyOf Sent.oneA message in
       let keeps = join-keeps s a (agentOf message) own m (own-rules l) (good-rules Sent.oneA _ (one-a-post .laws) (b .good)) (b .number) in
@@ -69,9 +70,9 @@ module _ {instance : ℕ} {s : Setup} {count : ℕ} {hall : List ℕ} (g : GoodH
   unfolding actOf takePageAct rowsAt agentsFor
   take-page-stepped f =
       let x : Step = stepOf 9 a j n c cf v in
-      let l : a < s .boxes = named-agent g x (f .exists) in
+      let l : a < s .boxes = exists-agent s count x (f .exists) in
       let b =
-      handed g x f Rows.box (boxesAt + a) Sent.twoS _ twoS two-s-post j (named-number g x (f .exists) refl)
+      handed g x f Rows.box (boxesAt + a) Sent.twoS _ twoS two-s-post j (exists-message s count x (f .exists) refl)
       (λ r m. sending Rows.box Sent.twoB (stampFor instance s a) (takePageOf r m .refusal) (takePageOf r m .row) (takePageOf r m .sent)) refl in
       let m : TwoS = bodyOf Sent.twoS message in
       let keeps = take-page-keeps s a (agentOf message) own m (good-rules Sent.twoS _ (two-s-post .laws) (b .good)) (b .number) in
@@ -89,10 +90,10 @@ module _ {instance : ℕ} {s : Setup} {count : ℕ} {hall : List ℕ} (g : GoodH
   unfolding actOf takeReadingAct rowsAt agentsFor
   take-reading-stepped f =
       let x : Step = stepOf 10 a j n c cf v in
-      let l : a < s .boxes = named-agent g x (f .exists) in
+      let l : a < s .boxes = exists-agent s count x (f .exists) in
       let k : ℕ = agentOf message in
       let b =
-      handed g x f Rows.box (boxesAt + a) Sent.twoA _ twoA two-a-post j (named-number g x (f .exists) refl)
+      handed g x f Rows.box (boxesAt + a) Sent.twoA _ twoA two-a-post j (exists-message s count x (f .exists) refl)
       (λ r m. sending Rows.box Sent.twoB (stampFor instance s a) (takeReadingOf s r k m .refusal) (takeReadingOf s r k m .row) (takeReadingOf s r k m .sent)) refl in
       let m : TwoA = bodyOf Sent.twoA message in
       let keeps =

@@ -35,7 +35,8 @@ use Rattle.safety.proofs.StepsKeep as Grants
 use Rattle.safety.proofs.PagesChange.{coordinator-apart}
 use Rattle.promise.proofs.GoodBlocks.{stampFor, good-agent, good-rules}
 use Rattle.promise.proofs.GoodHalls.{GoodHall}
-use Rattle.promise.proofs.HallNumbers.{HallGranted, named-agent, named-number}
+use Rattle.hall.proofs.StepFacts.{exists-agent, exists-message}
+use Rattle.promise.proofs.HallNumbers.{HallGranted}
 use Rattle.promise.proofs.OneStep.{coordinator-row, one-a-post, one-b-post, two-s-post, silent-done, sending-done}
 use Rattle.promise.proofs.Stepped.{stepOf, Stepped, by-other, handed, alone, times-at}
 
@@ -81,7 +82,7 @@ module _ {instance : ℕ} {s : Setup} {count : ℕ} {hall : List ℕ} (g : GoodH
   unfolding actOf startAct rowsAt agentsFor numbersInRange
   start-stepped f =
       let x : Step = stepOf 2 a j n c cf v in
-      let l : a < s .coordinators = named-agent g x (f .exists) in
+      let l : a < s .coordinators = exists-agent s count x (f .exists) in
       let b =
       alone g x f Rows.coordinator (coordinatorsAt + a)
       (λ r. sending Rows.coordinator Sent.oneA (stampFor instance s a) (startOf a r n cf .refusal) (startOf a r n cf .row) (startOf a r n cf .sent)) refl in
@@ -100,10 +101,10 @@ module _ {instance : ℕ} {s : Setup} {count : ℕ} {hall : List ℕ} (g : GoodH
   unfolding actOf hearAct rowsAt agentsFor
   hear-stepped f =
       let x : Step = stepOf 4 a j n c cf v in
-      let l : a < s .coordinators = named-agent g x (f .exists) in
+      let l : a < s .coordinators = exists-agent s count x (f .exists) in
       let k : ℕ = agentOf message in
       let b =
-      handed g x f Rows.coordinator (coordinatorsAt + a) Sent.oneB _ oneB one-b-post j (named-number g x (f .exists) refl)
+      handed g x f Rows.coordinator (coordinatorsAt + a) Sent.oneB _ oneB one-b-post j (exists-message s count x (f .exists) refl)
       (λ r m. silent Rows.coordinator (stampFor instance s a) (hearOf r k m .refusal) (hearOf r k m .row)) refl in
       let m : OneB = bodyOf Sent.oneB message in
       let done =
@@ -120,7 +121,7 @@ module _ {instance : ℕ} {s : Setup} {count : ℕ} {hall : List ℕ} (g : GoodH
   unfolding actOf openAct rowsAt agentsFor
   open-stepped f =
       let x : Step = stepOf 5 a j n c cf v in
-      let l : a < s .coordinators = named-agent g x (f .exists) in
+      let l : a < s .coordinators = exists-agent s count x (f .exists) in
       let b =
       alone g x f Rows.coordinator (coordinatorsAt + a)
       (λ r. sending Rows.coordinator Sent.twoS (stampFor instance s a) (openOf s a r .refusal) (openOf s a r .row) (openOf s a r .sent)) refl in

@@ -1,16 +1,14 @@
 -- Every granted step from a good hall, whatever its seven numbers: the hall is good again, and the step is one of the thirteen.
-use Prim.Native.Nat.{ℕ, zero, suc, _≤_, _<_}
+use Prim.Native.Nat.{ℕ, zero, suc, _≤_}
 use native.Mathlib.Omega.{arith}
-use lib.Dec.{ltb, leb}
 use mathlib.Core.Path.{_≡_}
-use mathlib.Core.Bool.{true, _&&_}
+use mathlib.Core.Bool.{true}
 use mathlib.Core.List.{List}
-use borrow.Author.Tests.{ltb-true, leb-true}
 use Rattle.below.specs.Refusals.{granted}
-use Rattle.below.proofs.Tests.{and-left, and-right}
 use Rattle.rounds.specs.declared.setup.Setup.{Setup}
 use Rattle.acts.specs.declared.step.Step.{Step}
-use Rattle.hall.specs.Steps.{stepExists, isCode, agentsFor, hallRefusal}
+use Rattle.hall.specs.Steps.{stepExists, hallRefusal}
+use Rattle.hall.proofs.StepFacts.{exists-code, code-range}
 use Rattle.promise.proofs.GoodHalls.{GoodHall}
 use Rattle.promise.proofs.HallNumbers.{HallGranted, hall-granted}
 use Rattle.promise.proofs.Stepped.{stepOf, Stepped}
@@ -20,15 +18,11 @@ use Rattle.promise.proofs.CoordinatorsOnBytes.{start-stepped, hear-step
 use Rattle.promise.proofs.ReadersOnBytes.{note-vote-stepped, note-blank-stepped, learn-stepped}
 
 module _ {instance : ℕ} {s : Setup} {count : ℕ} {hall : List ℕ} (g : GoodHall instance s count hall) where
-  pub code-range : (x : Step) → stepExists s count x ≡ true → (0 < x .code) × (x .code ≤ 13)
-  unfolding stepExists
-  code-range x e = (ltb-true 0 (x .code) (and-left (ltb 0 (x .code)) (leb (x .code) 13) code), leb-true (x .code) 13 (and-right (ltb 0 (x .code)) (leb (x .code) 13) code))
-    where
-      code : isCode (x .code) ≡ true
-      code = and-left (isCode (x .code)) (ltb (x .agent) (agentsFor s (x .code))) (and-left (isCode (x .code) && ltb (x .agent) (agentsFor s (x .code))) _ e)
+  range : (x : Step) → stepExists s count x ≡ true → (1 ≤ x .code) × (x .code ≤ 13)
+  range x e = code-range (x .code) (exists-code s count x e)
 
   by-code : (code a j n c cf v : ℕ) → HallGranted g (stepOf code a j n c cf v) → Stepped instance s count hall (stepOf code a j n c cf v)
-  by-code zero a j n c cf v f = absurd (omega (arith, code-range _ (f .exists) .0))
+  by-code zero a j n c cf v f = absurd (omega (arith, range _ (f .exists) .0))
   by-code (suc zero) a j n c cf v f = offer-stepped g a j n c cf v f
   by-code (suc (suc zero)) a j n c cf v f = start-stepped g a j n c cf v f
   by-code (suc (suc (suc zero))) a j n c cf v f = join-stepped g a j n c cf v f
@@ -42,7 +36,7 @@ module _ {instance : ℕ} {s : Setup} {count : ℕ} {hall : List ℕ} (g : GoodH
   by-code (suc (suc (suc (suc (suc (suc (suc (suc (suc (suc (suc zero))))))))))) a j n c cf v f = note-vote-stepped g a j n c cf v f
   by-code (suc (suc (suc (suc (suc (suc (suc (suc (suc (suc (suc (suc zero)))))))))))) a j n c cf v f = note-blank-stepped g a j n c cf v f
   by-code (suc (suc (suc (suc (suc (suc (suc (suc (suc (suc (suc (suc (suc zero))))))))))))) a j n c cf v f = learn-stepped g a j n c cf v f
-  by-code (suc (suc (suc (suc (suc (suc (suc (suc (suc (suc (suc (suc (suc (suc code)))))))))))))) a j n c cf v f = absurd (omega (arith, code-range _ (f .exists) .1))
+  by-code (suc (suc (suc (suc (suc (suc (suc (suc (suc (suc (suc (suc (suc (suc code)))))))))))))) a j n c cf v f = absurd (omega (arith, range _ (f .exists) .1))
 
   pub every-step : (x : Step) → hallRefusal hall x ≡ granted → Stepped instance s count hall x
   every-step x h = by-code (x .code) (x .agent) (x .message) (x .n) (x .c) (x .cf) (x .reading) (hall-granted g x h)

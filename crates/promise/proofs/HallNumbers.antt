@@ -1,14 +1,14 @@
 -- What a good hall answers: 1, 2 and 3 are out, so the number is 4, 11, the act's own, or 10; and what is known where it is 0.
 use Prim.Native.Nat.{ℕ, _+_, _<_}
 use native.Mathlib.Omega.{arith}
-use lib.Dec.{ltb, eqb}
+use lib.Dec.{eqb}
 use mathlib.Core.Path.{_≡_, refl, sym, ap, subst, _∙_}
-use mathlib.Core.Bool.{Bool, true, false, cond, not, _&&_, _||_, false≢true}
+use mathlib.Core.Bool.{Bool, true, false, cond, not, _&&_, _||_}
 use mathlib.Core.Logic.{⊎-elim}
 use mathlib.Core.List.{List}
-use borrow.Author.Tests.{eqb-true, eqb-false, eq-eqb, ltb-true}
+use borrow.Author.Tests.{eq-eqb}
 use Rattle.below.specs.Refusals.{unless, granted}
-use Rattle.below.proofs.Tests.{and-true, and-left, and-right, or-true-right, or-true-left, or-cases, decided}
+use Rattle.below.proofs.Tests.{and-true, or-true-right, or-true-left, decided}
 use Rattle.below.proofs.Granted.{unless-held, unless-later}
 use Rattle.rounds.specs.declared.setup.Setup.{Setup}
 use Rattle.records.specs.declared.stamp.Stamp.{Stamp}
@@ -20,7 +20,8 @@ use Rattle.acts.specs.declared.step.Step.{Step}
 use Rattle.acts.specs.Acts.{Act, actOf}
 use Rattle.acts.specs.Named.{badBlock, otherHall, isGood, stampOf, sameHall, names, ownAct, namedRefusal}
 use Rattle.hall.specs.Halls.{wrongLength, outOfRange, coordinatorsAt, boxesAt, racksAt, readersAt, blockAt}
-use Rattle.hall.specs.Steps.{byRack, byCoordinator, byBox, rowsAt, agentsFor, isCode, noSuchStep, stepExists, numbersInRange, headOf, countOf, rowPlace, rowOf, messageOf, hallAct, postFull, fits, hallRefusal}
+use Rattle.hall.specs.Steps.{byRack, byCoordinator, byBox, rowsAt, agentsFor, noSuchStep, stepExists, numbersInRange, headOf, countOf, rowPlace, rowOf, messageOf, hallAct, postFull, fits, hallRefusal}
+use Rattle.hall.proofs.StepFacts.{exists-agent, exists-message, own-number}
 use Rattle.safety.proofs.Moved.{Agent, coordinator, box, rack, reader}
 use Rattle.promise.proofs.GoodBlocks.{stampFor, OfHall, same-hall, of-hall}
 use Rattle.promise.proofs.GoodHalls.{placeOf, Exists, GoodRow, GoodHall}
@@ -97,27 +98,13 @@ module _ {instance : ℕ} {s : Setup} {count : ℕ} {hall : List ℕ} (g : GoodH
   no-such-step e = past-head ∙ rw e
 
   module _ (exists : stepExists s count x ≡ true) where
-    pub named-agent : x .agent < agentsFor s (x .code)
-    unfolding stepExists
-    named-agent = ltb-true _ _ (and-right (isCode (x .code)) _ (and-left (isCode (x .code) && ltb (x .agent) (agentsFor s (x .code))) _ exists))
-
     pub named-row : GoodNamed instance s (x .agent) (rowOf hall x)
     named-row =
         subst (λ (p : ℕ). GoodNamed instance s (x .agent) (blockAt hall p)) (sym (named-place x))
-        (named-good x _ (g .rows (whoOf x) (named-exists s x named-agent)))
-
-    pub named-number : names (x .code) ≡ true → x .message < count
-    unfolding stepExists
-    named-number n = ltb-true _ _ (⊎-elim (λ e. absurd (clash e)) (λ e. e) (or-cases (not (names (x .code))) _ last))
-      where
-        last : not (names (x .code)) || ltb (x .message) count ≡ true
-        last = and-right (isCode (x .code) && ltb (x .agent) (agentsFor s (x .code))) _ exists
-
-        clash : not (names (x .code)) ≡ true → ⊥
-        clash e = false≢true (ap not (sym n) ∙ e)
+        (named-good x _ (g .rows (whoOf x) (named-exists s x (exists-agent s count x exists))))
 
     named-message : names (x .code) ≡ true → OfHall instance s (messageOf hall x)
-    named-message n = g .posted (x .message) (named-number n)
+    named-message n = g .posted (x .message) (exists-message s count x exists n)
 
     pub act-is : hallAct hall x ≡ actIn
     unfolding hallAct
@@ -166,13 +153,6 @@ pub record HallGranted {instance : ℕ} {s : Setup} {count : ℕ} {hall : List �
   pub range : numbersInRange s x ≡ true
   pub act : actIn g x .refusal ≡ granted
   pub room : fits (actIn g x .sends) count ≡ true
-
-own-number : (n later : ℕ) → unless (eqb n granted) n later ≡ granted → (n ≡ granted) × (later ≡ granted)
-own-number n later h = go (eqb n granted) refl h
-  where
-    go : (b : Bool) → eqb n granted ≡ b → unless b n later ≡ granted → (n ≡ granted) × (later ≡ granted)
-    go true e k = (eqb-true _ _ e, k)
-    go false e k = absurd (eqb-false _ _ e k)
 
 pub hall-granted : {instance : ℕ} {s : Setup} {count : ℕ} {hall : List ℕ} (g : GoodHall instance s count hall) (x : Step) → hallRefusal hall x ≡ granted →
     HallGranted g x

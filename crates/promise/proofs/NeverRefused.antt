@@ -35,7 +35,8 @@ use Rattle.safety.proofs.FreshRuns.{open-fits, note-vote-fits, learn-fits}
 use Rattle.promise.specs.Runs.{runHall}
 use Rattle.promise.proofs.GoodBlocks.{stampFor, good-rules}
 use Rattle.promise.proofs.GoodHalls.{GoodHall}
-use Rattle.promise.proofs.HallNumbers.{actIn, named-agent, named-number, no-such-step, number-is}
+use Rattle.hall.proofs.StepFacts.{exists-agent, exists-message}
+use Rattle.promise.proofs.HallNumbers.{actIn, no-such-step, number-is}
 use Rattle.promise.proofs.OneStep.{two-b-post}
 use Rattle.promise.proofs.Stepped.{stepOf}
 use Rattle.promise.proofs.EveryStep.{code-range}
@@ -108,7 +109,7 @@ module _ (instance : ℕ) (s : Setup) (range : setupInRange s ≡ true) (small :
         low = subst Low (sym (note-vote-number (bodyOf Rows.reader (blockAt hall (readersAt + a))) (agentOf (blockAt hall (messagesAt + j))) (bodyOf Sent.twoB (blockAt hall (messagesAt + j))))) (low-vote (heldAt (bodyOf Rows.reader (blockAt hall (readersAt + a))) (agentOf (blockAt hall (messagesAt + j)))) (bodyOf Sent.twoB (blockAt hall (messagesAt + j))));
         fits =
             note-vote-fits s range (fresh-view instance s range small) (whole instance s range small steps .reached .run) a (agentOf (blockAt hall (messagesAt + j))) (bodyOf Sent.twoB (blockAt hall (messagesAt + j)))
-            (named-agent g (stepOf 11 a j n c cf v) e) (j, named-number g (stepOf 11 a j n c cf v) e refl, two-b-post .reads (blockAt hall (messagesAt + j)) is);
+            (exists-agent s count (stepOf 11 a j n c cf v) e) (j, exists-message s count (stepOf 11 a j n c cf v) e refl, two-b-post .reads (blockAt hall (messagesAt + j)) is);
       })
   by-code (suc (suc (suc (suc (suc (suc (suc (suc (suc (suc (suc (suc zero)))))))))))) a j n c cf v e =
       mild-both Rows.reader Sent.twoA (blockAt hall (readersAt + a)) (blockAt hall (messagesAt + j)) (λ r m. silent Rows.reader (stampFor instance s a) (noteBlankOf r (agentOf (blockAt hall (messagesAt + j))) m .refusal) (noteBlankOf r (agentOf (blockAt hall (messagesAt + j))) m .row))
@@ -119,7 +120,7 @@ module _ (instance : ℕ) (s : Setup) (range : setupInRange s ≡ true) (small :
         low = low-learn (counted-learns s (bodyOf Rows.reader (blockAt hall (readersAt + a))) (roundOf n c cf));
         fits =
             learn-fits s range (fresh-view instance s range small) (whole instance s range small steps .reached .run) a (roundOf n c cf) _
-            (named-agent g (stepOf 13 a j n c cf v) e) (counted-learns s (bodyOf Rows.reader (blockAt hall (readersAt + a))) (roundOf n c cf));
+            (exists-agent s count (stepOf 13 a j n c cf v) e) (counted-learns s (bodyOf Rows.reader (blockAt hall (readersAt + a))) (roundOf n c cf));
       })
   by-code (suc (suc (suc (suc (suc (suc (suc (suc (suc (suc (suc (suc (suc (suc code)))))))))))))) a j n c cf v e = absurd (omega (arith, code-range g _ e .1))
 

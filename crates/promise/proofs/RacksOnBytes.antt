@@ -29,7 +29,8 @@ use Rattle.safety.proofs.PagesChange.{rack-apart}
 use Rattle.hall.proofs.Cells.{length-block}
 use Rattle.promise.proofs.GoodBlocks.{stampFor, Good, good-is, good-rules}
 use Rattle.promise.proofs.GoodHalls.{GoodHall}
-use Rattle.promise.proofs.HallNumbers.{HallGranted, named-agent, named-number}
+use Rattle.hall.proofs.StepFacts.{exists-agent, exists-message}
+use Rattle.promise.proofs.HallNumbers.{HallGranted}
 use Rattle.promise.proofs.OneStep.{rack-row, propose-post, two-s-post, two-a-post, silent-done, sending-done, posting-done}
 use Rattle.promise.proofs.Stepped.{stepOf, Stepped, by-other, handed}
 use native.Mathlib.Omega.{arith}
@@ -48,7 +49,7 @@ module _ {instance : ℕ} {s : Setup} {count : ℕ} {hall : List ℕ} (g : GoodH
   unfolding actOf offerAct rowsAt agentsFor numbersInRange
   offer-stepped f =
       let x : Step = stepOf 1 a j n c cf v in
-      let l : a < s .racks = named-agent g x (f .exists) in
+      let l : a < s .racks = exists-agent s count x (f .exists) in
       let good : Good Rows.rack (stampFor instance s a) (blockAt hall (racksAt + a)) = g .rows (rack a) l in
       let done =
       posting-done g x f Rows.rack Any rack rack-row a l refl own (own-rules l) tt Sent.propose Any propose propose-post (offerOf (record { 0 = v })) l
@@ -75,9 +76,9 @@ module _ {instance : ℕ} {s : Setup} {count : ℕ} {hall : List ℕ} (g : GoodH
   unfolding actOf prepareAct rowsAt agentsFor
   prepare-stepped f =
       let x : Step = stepOf 6 a j n c cf v in
-      let l : a < s .racks = named-agent g x (f .exists) in
+      let l : a < s .racks = exists-agent s count x (f .exists) in
       let b =
-      handed g x f Rows.rack (racksAt + a) Sent.twoS _ twoS two-s-post j (named-number g x (f .exists) refl)
+      handed g x f Rows.rack (racksAt + a) Sent.twoS _ twoS two-s-post j (exists-message s count x (f .exists) refl)
       (λ r m. silent Rows.rack (stampFor instance s a) (prepareOf a r m .refusal) (prepareOf a r m .row)) refl in
       let m : TwoS = bodyOf Sent.twoS message in
       let done =
@@ -93,9 +94,9 @@ module _ {instance : ℕ} {s : Setup} {count : ℕ} {hall : List ℕ} (g : GoodH
   unfolding actOf fastAct rowsAt agentsFor
   fast-stepped f =
       let x : Step = stepOf 7 a j n c cf v in
-      let l : a < s .racks = named-agent g x (f .exists) in
+      let l : a < s .racks = exists-agent s count x (f .exists) in
       let b =
-      handed g x f Rows.rack (racksAt + a) Sent.propose _ propose propose-post j (named-number g x (f .exists) refl)
+      handed g x f Rows.rack (racksAt + a) Sent.propose _ propose propose-post j (exists-message s count x (f .exists) refl)
       (λ r m. sending Rows.rack Sent.twoA (stampFor instance s a) (fastOf a r m .refusal) (fastOf a r m .row) (fastOf a r m .sent)) refl in
       let m : Propose = bodyOf Sent.propose message in
       let keeps = fast-keeps s a (agentOf message) own m (own-rules l) (good-rules Sent.propose _ (propose-post .laws) (b .good)) (b .number) in
@@ -112,9 +113,9 @@ module _ {instance : ℕ} {s : Setup} {count : ℕ} {hall : List ℕ} (g : GoodH
   unfolding actOf blankAct rowsAt agentsFor
   blank-stepped f =
       let x : Step = stepOf 8 a j n c cf v in
-      let l : a < s .racks = named-agent g x (f .exists) in
+      let l : a < s .racks = exists-agent s count x (f .exists) in
       let b =
-      handed g x f Rows.rack (racksAt + a) Sent.twoA _ twoA two-a-post j (named-number g x (f .exists) refl)
+      handed g x f Rows.rack (racksAt + a) Sent.twoA _ twoA two-a-post j (exists-message s count x (f .exists) refl)
       (λ r m. sending Rows.rack Sent.twoA (stampFor instance s a) (blankOf a r m .refusal) (blankOf a r m .row) (blankOf a r m .sent)) refl in
       let m : TwoA = bodyOf Sent.twoA message in
       let keeps = blank-keeps s a own m (own-rules l) (b .number) in

@@ -39,7 +39,8 @@ use Rattle.safety.proofs.StepsKeep as Grants
 use Rattle.safety.proofs.PagesChange.{note-vote-page, note-blank-page}
 use Rattle.promise.proofs.GoodBlocks.{stampFor, good-agent, good-rules}
 use Rattle.promise.proofs.GoodHalls.{GoodHall}
-use Rattle.promise.proofs.HallNumbers.{HallGranted, named-agent, named-number}
+use Rattle.hall.proofs.StepFacts.{exists-agent, exists-message}
+use Rattle.promise.proofs.HallNumbers.{HallGranted}
 use Rattle.promise.proofs.OneStep.{reader-row, two-a-post, two-b-post, silent-done}
 use Rattle.promise.proofs.Stepped.{stepOf, PageStep, Stepped, by-reader, handed, alone, times-at}
 
@@ -87,10 +88,10 @@ module _ {instance : ℕ} {s : Setup} {count : ℕ} {hall : List ℕ} (g : GoodH
   unfolding actOf noteVoteAct rowsAt agentsFor
   note-vote-stepped f =
       let x : Step = stepOf 11 a j n c cf v in
-      let l : a < s .readers = named-agent g x (f .exists) in
+      let l : a < s .readers = exists-agent s count x (f .exists) in
       let k : ℕ = agentOf message in
       let b =
-      handed g x f Rows.reader (readersAt + a) Sent.twoB _ twoB two-b-post j (named-number g x (f .exists) refl)
+      handed g x f Rows.reader (readersAt + a) Sent.twoB _ twoB two-b-post j (exists-message s count x (f .exists) refl)
       (λ r m. silent Rows.reader (stampFor instance s a) (noteVoteOf r k m .refusal) (noteVoteOf r k m .row)) refl in
       let m : TwoB = bodyOf Sent.twoB message in
       let done =
@@ -109,10 +110,10 @@ module _ {instance : ℕ} {s : Setup} {count : ℕ} {hall : List ℕ} (g : GoodH
   unfolding actOf noteBlankAct rowsAt agentsFor
   note-blank-stepped f =
       let x : Step = stepOf 12 a j n c cf v in
-      let l : a < s .readers = named-agent g x (f .exists) in
+      let l : a < s .readers = exists-agent s count x (f .exists) in
       let k : ℕ = agentOf message in
       let b =
-      handed g x f Rows.reader (readersAt + a) Sent.twoA _ twoA two-a-post j (named-number g x (f .exists) refl)
+      handed g x f Rows.reader (readersAt + a) Sent.twoA _ twoA two-a-post j (exists-message s count x (f .exists) refl)
       (λ r m. silent Rows.reader (stampFor instance s a) (noteBlankOf r k m .refusal) (noteBlankOf r k m .row)) refl in
       let m : TwoA = bodyOf Sent.twoA message in
       let done =
@@ -131,7 +132,7 @@ module _ {instance : ℕ} {s : Setup} {count : ℕ} {hall : List ℕ} (g : GoodH
   unfolding actOf learnAct rowsAt agentsFor
   learn-stepped f =
       let x : Step = stepOf 13 a j n c cf v in
-      let l : a < s .readers = named-agent g x (f .exists) in
+      let l : a < s .readers = exists-agent s count x (f .exists) in
       let r : Round = roundOf n c cf in
       let b =
       alone g x f Rows.reader (readersAt + a) (λ y. silent Rows.reader (stampFor instance s a) (countedOf s y r .refusal) (countedOf s y r .row)) refl in

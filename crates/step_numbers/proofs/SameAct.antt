@@ -3,21 +3,21 @@
 use Prim.Native.Nat.{ℕ, zero, suc, _%_, _≤_, _<_}
 use native.Mathlib.Omega.{arith}
 use native.Mathlib.Nat.{mod-eq-of-lt}
-use lib.Dec.{eqb, leb, ltb}
+use lib.Dec.{eqb, ltb}
 use borrow.Author.Tests.{ltb-true, leb-true, eqb-true}
-use mathlib.Core.Path.{_≡_, refl, sym, ap, subst, _∙_}
-use mathlib.Core.Bool.{Bool, true, false, cond, not, _&&_, _||_}
+use mathlib.Core.Path.{_≡_, refl, ap, subst, _∙_}
+use mathlib.Core.Bool.{Bool, true, false, not, _||_}
 use mathlib.Core.List.{List}
 use Rattle.below.specs.Refusals.{unless, granted}
 use Rattle.below.proofs.Tests.{and-left, and-right}
 use Rattle.rounds.specs.declared.setup.Setup.{Setup}
 use Rattle.rounds.specs.declared.round.Round.{Round}
-use Rattle.rounds.specs.Setups.{oneTo, someRacks}
-use Rattle.rounds.specs.Rounds.{roundOf, roundInRange, largestNumber}
+use Rattle.rounds.specs.Setups.{oneTo}
+use Rattle.rounds.specs.Rounds.{roundOf, largestNumber}
 use Rattle.records.specs.declared.stamp.Stamp.{Stamp}
 use Rattle.blocks.proofs.Ranges.{SetupFits, round-fits, some-small}
 use Rattle.acts.specs.declared.step.Step.{Step}
-use Rattle.acts.specs.Acts.{Act, actOf, startAct, joinAct, hearAct, prepareAct, fastAct, blankAct, takePageAct, takeReadingAct, noteVoteAct, noteBlankAct, learnAct}
+use Rattle.acts.specs.Acts.{Act, actOf, joinAct, hearAct, prepareAct, fastAct, blankAct, takePageAct, takeReadingAct, noteVoteAct, noteBlankAct, learnAct}
 use Rattle.acts.specs.Named.{badBlock, otherHall, isGood, stampOf, sameHall, names, ownAct, ownRow, namedRefusal}
 use Rattle.acts.specs.Answers.{stepOf}
 use Rattle.hall.specs.Steps.{isCode, numbersInRange}

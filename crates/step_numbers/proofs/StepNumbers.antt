@@ -1,19 +1,19 @@
 -- Which rows a code's agents have, and that what a step names lies within the hall.
 use Prim.Native.Nat.{ℕ, _+_, _≤_, _<_}
 use native.Mathlib.Omega.{arith}
-use lib.Dec.{eqb, leb, ltb}
-use lib.Arith.{lt-one}
-use borrow.Author.Tests.{ltb-true, le-leb, lt-leb, ne-eqb}
-use mathlib.Core.Path.{_≡_, refl, sym, ap, subst, _∙_}
-use mathlib.Core.Bool.{Bool, true, false, cond, not, _&&_, _||_, false≢true}
-use mathlib.Core.Logic.{_⊎_, inl, inr, ⊎-elim}
-use Rattle.below.proofs.Tests.{and-true, and-left, and-right, and-false-right, or-true-right, or-cases}
+use lib.Dec.{eqb, leb}
+use borrow.Author.Tests.{le-leb, lt-leb, ne-eqb}
+use mathlib.Core.Path.{_≡_, refl, sym, subst}
+use mathlib.Core.Bool.{Bool, true, false, cond, not, _&&_, _||_}
+use mathlib.Core.Logic.{_⊎_, inl, inr}
+use Rattle.below.proofs.Tests.{and-true, and-false-right, or-true-right}
 use Rattle.rounds.specs.declared.setup.Setup.{Setup}
 use Rattle.blocks.proofs.Ranges.{SetupFits}
 use Rattle.acts.specs.declared.step.Step.{Step}
 use Rattle.acts.specs.Named.{names}
 use Rattle.hall.specs.Halls.{coordinatorsAt, boxesAt, racksAt, readersAt, messagesAt, blocksOfHall}
-use Rattle.hall.specs.Steps.{byRack, byCoordinator, byBox, rowsAt, agentsFor, isCode, stepExists, rowPlace, mostMessages}
+use Rattle.hall.proofs.StepFacts.{exists-message}
+use Rattle.hall.specs.Steps.{byRack, byCoordinator, byBox, rowsAt, agentsFor, stepExists, rowPlace, mostMessages}
 
 -- a row's place is before the messages
 pub row-within : (s : Setup) (f : SetupFits s) (x : Step) → x .agent < agentsFor s (x .code) → rowPlace x < messagesAt
@@ -28,26 +28,8 @@ row-within s f x l = go (byRack (x .code)) (byCoordinator (x .code)) (byBox (x .
     go false false false m = omega (arith, f .readers)
 
 module _ (s : Setup) (count : ℕ) (x : Step) (exists : stepExists s count x ≡ true) where
-  pub exists-code : isCode (x .code) ≡ true
-  unfolding stepExists
-  exists-code = and-left (isCode (x .code)) _ (and-left (isCode (x .code) && ltb (x .agent) (agentsFor s (x .code))) _ exists)
-
-  pub exists-agent : x .agent < agentsFor s (x .code)
-  unfolding stepExists
-  exists-agent = ltb-true _ _ (and-right (isCode (x .code)) _ (and-left (isCode (x .code) && ltb (x .agent) (agentsFor s (x .code))) _ exists))
-
-  pub exists-message : names (x .code) ≡ true → x .message < count
-  unfolding stepExists
-  exists-message n = ltb-true _ _ (⊎-elim (λ e. absurd (clash e)) (λ e. e) (or-cases (not (names (x .code))) _ last))
-    where
-      last : not (names (x .code)) || ltb (x .message) count ≡ true
-      last = and-right (isCode (x .code) && ltb (x .agent) (agentsFor s (x .code))) _ exists
-
-      clash : not (names (x .code)) ≡ true → ⊥
-      clash e = false≢true (ap not (sym n) ∙ e)
-
   pub message-within : count ≤ mostMessages → cond (names (x .code)) (messagesAt + x .message) messagesAt < blocksOfHall
-  message-within few = go (names (x .code)) exists-message
+  message-within few = go (names (x .code)) (exists-message s count x exists) s count x exists
     where
       go : (b : Bool) → (b ≡ true → x .message < count) → cond b (messagesAt + x .message) messagesAt < blocksOfHall
       go true m = omega (arith, m refl, few)

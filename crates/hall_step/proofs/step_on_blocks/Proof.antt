@@ -3,7 +3,7 @@ use borrow.Author.Tests.{not-true, not-false}
 use native.Mathlib.Omega.{arith}
 use mathlib.Core.Path.{sym, ap, _∙_}
 use Rattle.hall_step.proofs.Parts.{part-is, part-size}
-use Rattle.hall_step.proofs.Stepping.{code-range, place-within, message-fits, own-row, own-message, own-hall, act-refused, post-is-full, stepped}
+use Rattle.hall_step.proofs.Stepping.{code-within, place-within, message-fits, own-row, own-message, own-hall, act-refused, post-is-full, stepped}
 use borrow.Author.Needs.{needs}
 use Rattle.hall_step.proofs.step_on_blocks.Statement.{statement}
 use Rattle.hall_step.proofs.step_on_blocks.Tie as tie
@@ -63,7 +63,7 @@ slice-aggregate-act-2 : tie.Need-slice-aggregate-act-2
 slice-aggregate-act-2 c = search needs
 
 act-requires : tie.Need-act-requires
-act-requires c κs = (code-range _ _ (c .before .before .before .before .before .before .before .before .before .before .before .before .before .before .pre), (part-size (c .before .before .before .before .before .before .before .before .before .before .before .before .before .before .args .hall .now) ((c .before .before .before .before .before .before .before .before .before .before .before .rows-of .result .first) + (c .before .before .before .before .before .before .before .before .before .before .before .before .before .before .args .step .agent)) (c .before .before .before .before .before .before .before .before .before .before .before .before .before .before .pre .long) (omega (arith, place-within _ _ (c .before .before .before .before .before .before .before .before .before .before .before .before .before .before .pre) (c .before .before .before .before .before .before .before .before .before .before .before .rows-of .ensures .0))), (part-size (c .before .before .before .before .before .before .before .before .before .before .before .before .before .before .args .hall .now) (c .before .before .before .before .before .before .before .before .message-place .result) (c .before .before .before .before .before .before .before .before .before .before .before .before .before .before .pre .long) (message-fits _ _ (c .before .before .before .before .before .before .before .before .before .before .before .before .before .before .pre) (c .before .before .before .before .before .before .before .before .message-place .ensures)), (search needs, search needs))))
+act-requires c κs = (code-within _ _ (c .before .before .before .before .before .before .before .before .before .before .before .before .before .before .pre), (part-size (c .before .before .before .before .before .before .before .before .before .before .before .before .before .before .args .hall .now) ((c .before .before .before .before .before .before .before .before .before .before .before .rows-of .result .first) + (c .before .before .before .before .before .before .before .before .before .before .before .before .before .before .args .step .agent)) (c .before .before .before .before .before .before .before .before .before .before .before .before .before .before .pre .long) (omega (arith, place-within _ _ (c .before .before .before .before .before .before .before .before .before .before .before .before .before .before .pre) (c .before .before .before .before .before .before .before .before .before .before .before .rows-of .ensures .0))), (part-size (c .before .before .before .before .before .before .before .before .before .before .before .before .before .before .args .hall .now) (c .before .before .before .before .before .before .before .before .message-place .result) (c .before .before .before .before .before .before .before .before .before .before .before .before .before .before .pre .long) (message-fits _ _ (c .before .before .before .before .before .before .before .before .before .before .before .before .before .before .pre) (c .before .before .before .before .before .before .before .before .message-place .ensures)), (search needs, search needs))))
 
 cast-result : tie.Need-cast-result
 cast-result c = search needs
