@@ -22,9 +22,13 @@ decimalBy (suc k) n = cond (ltb n 10) ((48 + n) ∷ []) (decimalBy k (n / 10) ++
 abbrev pub decimal : ℕ → List ℕ
 decimal n = decimalBy 10 n
 
+-- a number and the space behind it
+abbrev pub fieldText : ℕ → List ℕ
+fieldText n = decimal n ++ (space ∷ [])
+
 -- the refusal number and the message count
 unfoldable pub answerText : ℕ → ℕ → List ℕ
-answerText refusal count = decimal refusal ++ ((space ∷ []) ++ (decimal count ++ (lineFeed ∷ [])))
+answerText refusal count = fieldText refusal ++ decimal count ++ (lineFeed ∷ [])
 
 -- "?"
 abbrev pub unreadableText : List ℕ
@@ -38,8 +42,7 @@ markText (reads r) = decimal (r .0)
 
 -- L, reader, rack, then the line
 unfoldable pub pageLineText : ℕ → ℕ → Mark → List ℕ
-pageLineText reader rack mark =
-    (76 ∷ (space ∷ [])) ++ (decimal reader ++ ((space ∷ []) ++ (decimal rack ++ ((space ∷ []) ++ (markText mark ++ (lineFeed ∷ []))))))
+pageLineText reader rack mark = (76 ∷ (space ∷ [])) ++ fieldText reader ++ fieldText rack ++ markText mark ++ (lineFeed ∷ [])
 
 -- what a function that writes text promises: the text at its place, and the place behind it
 pub record Put (at : ℕ) (text old after : List ℕ) (next : ℕ) : Type 0 where
@@ -50,9 +53,10 @@ pub record Put (at : ℕ) (text old after : List ℕ) (next : ℕ) : Type 0 wher
 pub record PutIn (room at : ℕ) (text old after : List ℕ) (next : ℕ) : Type 0 where
   pub left : after ≡ cond (leb (at + room) (length old)) (splice at text old) old
   pub ends : next ≡ cond (leb (at + room) (length old)) (at + length text) at
+  pub kept : length after ≡ length old
 
 abbrev pub answerRoom : ℕ
 answerRoom = 22
 
 abbrev pub pageLineRoom : ℕ
-pageLineRoom = 36
+pageLineRoom = 35

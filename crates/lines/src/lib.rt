@@ -5,8 +5,14 @@
 // scan takes a byte at a time, so a line may be longer than any buffer, and proofs/ScanIsLine.antt
 // says that both agree. What the numbers mean, and where lines begin and end, is no business here.
 mod scan;
+mod text;
 
 pub use scan::FIELDS;
 pub use scan::LARGEST;
 pub use scan::NumbersRead;
 pub use scan::Scan;
+pub use text::ANSWER_ROOM;
+pub use text::PAGE_LINE_ROOM;
+pub use text::put_answer;
+pub use text::put_page_line;
+pub use text::put_unreadable;
