@@ -12,6 +12,7 @@ use Rattle.below.proofs.Tests.{same-yes}
 use Rattle.pages.specs.declared.line.Reading
 use Rattle.pages.specs.declared.line.Mark.{Mark}
 use Rattle.pages.specs.declared.line.Mark.the-variants.{Absent, Nil, Reading as reads}
+use Rattle.words.specs.Bytes.{splice}
 use Rattle.words.proofs.Splices.{next}
 use Rattle.lines.specs.Fields.{space}
 use Rattle.lines.specs.Texts.{lineFeed, decimalBy, decimal, fieldText, answerText, markText, pageLineText, answerRoom, pageLineRoom, Put, PutIn}
@@ -117,6 +118,26 @@ module _ (room at : ℕ) (text old : List ℕ) {r : Bool} (tested : r ≡ leb (a
 
   pub put-none : r ≡ false → PutIn room at text old old at
   put-none h = record { left = rw (← tested, h); ends = rw (← tested, h); kept = refl }
+
+-- a caller that knows of the room
+pub put-with-room : {room at next : ℕ} {text old after : List ℕ} → at + room ≤ length old → PutIn room at text old after next → Put at text old after next
+put-with-room {room} {at} {next} {text} {old} {after} l p =
+    let e = le-leb (at + room) (length old) l in
+    record {
+      spliced = record { is = p .left ∙ ap (λ (b : Bool). cond b (splice at text old) old) e; kept = p .kept };
+      ends = p .ends ∙ ap (λ (b : Bool). cond b (at + length text) at) e;
+    }
+
+-- no line is longer than its room
+pub answer-short : (refusal count : ℕ) → length (answerText refusal count) ≤ answerRoom
+unfolding answerText
+answer-short refusal count =
+    simp length-append
+    (omega (arith, decimal-short refusal, decimal-short count))
+
+pub page-line-short : (reader rack : ℕ) (mark : Mark) → length (pageLineText reader rack mark) ≤ pageLineRoom
+unfolding pageLineText
+page-line-short reader rack mark = simp length-append (omega (arith, decimal-short reader, decimal-short rack, mark-short mark))
 
 -- the test for room
 pub room-past : {at n : ℕ} (room : ℕ) → n < at → false ≡ leb (at + room) n
