@@ -107,11 +107,14 @@ module _ (s : Rehearsal) (before input old : List ℕ) where
   play-ends {k} {to} {hall} {out} {r} l t = subst (λ (x : List ℕ). Turned (playOf s before x) 0 hall old out r to) (take-all k input l) t
 
 -- what is put lies within
-put-within : {next : ℕ} {text old after : List ℕ} → Put 0 text old after next → next ≤ length old
+counted : (n : ℕ) (l : List ℕ) → n ≤ length l → (n ≤ length l) × (n ≡ length (take n l))
+counted n l h = (h, sym (length-take-le n l h))
+
+put-within : {next : ℕ} {text old after : List ℕ} → Put 0 text old after next → (next ≤ length after) × (next ≡ length (take next after))
 unfolding splice
-put-within {next} {text} {old} p =
+put-within {next} {text} {old} {after} p =
     let e = sym (ap length (p .spliced .is)) ∙ p .spliced .kept in
-    omega (arith, p .ends, simp (length-append, length-drop) at e)
+    counted next after (omega (arith, p .ends, p .spliced .kept, simp (length-append, length-drop) at e))
 
 -- at the front of the output, where it has room
 module _ {enough : Bool} {s r : Rehearsal} {before hall old after : List ℕ} {t : Turn} {next : ℕ} where
@@ -127,7 +130,7 @@ module _ {enough : Bool} {s r : Rehearsal} {before hall old after : List ℕ} {t
       })
 
 pub turned-none : {enough : Bool} (s : Rehearsal) (before old : List ℕ) (t : Turn) → enough ≡ false → TurnedIn enough s before t before old old s 0
-turned-none s before old t e = rw e (record { played = refl; left = refl; printed = refl; ends = refl; within = omega arith })
+turned-none s before old t e = rw e (record { played = refl; left = refl; printed = refl; ends = refl; within = counted 0 old (omega arith) })
 
 -- the end of the input: a last line, or none
 module _ (s : Rehearsal) (before : List ℕ) where

@@ -2,7 +2,7 @@
 -- pieces it comes, this is the rehearsal's text is `rehearsal-in-pieces` (proofs/InPieces.antt).
 use Prim.Native.Nat.{ℕ, _+_, _*_, _≤_, min}
 use lib.Dec.{eqb}
-use lib.ListN.{length}
+use lib.ListN.{length, take}
 use mathlib.Core.Path.{_≡_}
 use mathlib.Core.Bool.{Bool, true, false, cond}
 use mathlib.Core.List.{List, [], _∷_, _++_}
@@ -104,4 +104,4 @@ pub record TurnedIn (enough : Bool) (r : Rehearsal) (hall : List ℕ) (t : Turn)
   pub printed : after ≡ cond enough (splice 0 (t .text) old) old
   pub ends : next ≡ cond enough (length (t .text)) 0
   -- this follows, and is what lending the printed part asks
-  pub within : next ≤ length old
+  pub within : (next ≤ length after) × (next ≡ length (take next after))
