@@ -1,0 +1,4 @@
+pub mod Scanning
+pub mod ScanIsLine
+pub mod Writing
+pub mod Unique

@@ -1,0 +1,5 @@
+pub mod Turning
+pub mod InParts
+pub mod PageLines
+pub mod InPieces
+pub mod Unique
