@@ -41,3 +41,6 @@ own-number n later h = go (eqb n granted) refl h
 
 pub code-range : (code : ℕ) → isCode code ≡ true → (1 ≤ code) × (code ≤ 13)
 code-range code h = (ltb-true 0 code (and-left (ltb 0 code) _ h), leb-true code 13 (and-right (ltb 0 code) _ h))
+
+pub exists-range : (s : Setup) (count : ℕ) (x : Step) → stepExists s count x ≡ true → (1 ≤ x .code) × (x .code ≤ 13)
+exists-range s count x e = code-range (x .code) (exists-code s count x e)

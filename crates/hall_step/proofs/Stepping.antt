@@ -31,7 +31,7 @@ use Rattle.step_numbers.specs.Narrowed.{narrowed}
 use Rattle.hall.proofs.Cells.{put-length}
 use Rattle.hall_step.specs.Reached.{Reached}
 use Rattle.hall_step.proofs.Parts.{put-part}
-use Rattle.hall.proofs.StepFacts.{exists-code, exists-agent, code-range}
+use Rattle.hall.proofs.StepFacts.{exists-code, exists-agent, exists-range}
 use Rattle.step_numbers.proofs.StepNumbers.{row-within, message-within}
 use Rattle.step_numbers.proofs.SameAct.{same-act, same-named}
 
@@ -81,7 +81,7 @@ module _ (hall : List ℕ) (x : Step) where
 
     -- what the step names lies within the hall
     pub code-within : (1 ≤ x .code) × (x .code ≤ 13)
-    code-within = code-range (x .code) (exists-code (stamp .setup) count x (r .exists))
+    code-within = exists-range (stamp .setup) count x (r .exists)
 
     pub place-within : {first : ℕ} → first ≡ rowsAt (x .code) → first + x .agent < messagesAt
     place-within e = subst (λ (n : ℕ). n + x .agent < messagesAt) (sym e) (row-within (stamp .setup) setup-small x (exists-agent (stamp .setup) count x (r .exists)))

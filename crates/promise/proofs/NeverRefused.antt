@@ -35,11 +35,10 @@ use Rattle.safety.proofs.FreshRuns.{open-fits, note-vote-fits, learn-fits}
 use Rattle.promise.specs.Runs.{runHall}
 use Rattle.promise.proofs.GoodBlocks.{stampFor, good-rules}
 use Rattle.promise.proofs.GoodHalls.{GoodHall}
-use Rattle.hall.proofs.StepFacts.{exists-agent, exists-message}
+use Rattle.hall.proofs.StepFacts.{exists-agent, exists-message, exists-range}
 use Rattle.promise.proofs.HallNumbers.{actIn, no-such-step, number-is}
 use Rattle.promise.proofs.OneStep.{two-b-post}
 use Rattle.promise.proofs.Stepped.{stepOf}
-use Rattle.promise.proofs.EveryStep.{code-range}
 use Rattle.promise.proofs.FreshHalls.{fresh-view}
 use Rattle.promise.proofs.PagesOnBytes.{whole}
 use Rattle.promise.proofs.MildNumbers.{Low, Mild, mild-unless, mild-0, low-vote, mild-blank, low-learn, note-vote-number, note-blank-number, mild-prepare, mild-fast, mild-say-blank, mild-join, mild-take-page, mild-take-reading, mild-start, mild-hear, low-open, mild-right, mild-row, mild-both}
@@ -57,7 +56,7 @@ module _ (instance : ℕ) (s : Setup) (range : setupInRange s ≡ true) (small :
   -- the act's own number
   by-code : (code a j n c cf v : ℕ) → stepExists s count (stepOf code a j n c cf v) ≡ true → Mild (actIn g (stepOf code a j n c cf v) .refusal)
   unfolding actOf offerAct startAct joinAct hearAct openAct prepareAct fastAct blankAct takePageAct takeReadingAct noteVoteAct noteBlankAct learnAct rowsAt agentsFor
-  by-code zero a j n c cf v e = absurd (omega (arith, code-range g _ e .0))
+  by-code zero a j n c cf v e = absurd (omega (arith, exists-range s count _ e .0))
   by-code (suc zero) a j n c cf v e =
       mild-right (isA Rows.rack (blockAt hall (racksAt + a)))
       (record {
@@ -86,7 +85,7 @@ module _ (instance : ℕ) (s : Setup) (range : setupInRange s ≡ true) (small :
       })
     where
       agent : stepExists s count (stepOf 5 a j n c cf v) ≡ true → a < s .coordinators
-      agent = named-agent g (stepOf 5 a j n c cf v)
+      agent = exists-agent s count (stepOf 5 a j n c cf v)
   by-code (suc (suc (suc (suc (suc (suc zero)))))) a j n c cf v e =
       mild-both Rows.rack Sent.twoS (blockAt hall (racksAt + a)) (blockAt hall (messagesAt + j)) (λ r m. silent Rows.rack (stampFor instance s a) (prepareOf a r m .refusal) (prepareOf a r m .row))
       (λ is. subst Mild (sym (prepare-number a (bodyOf Rows.rack (blockAt hall (racksAt + a))) (bodyOf Sent.twoS (blockAt hall (messagesAt + j))))) (mild-prepare (bodyOf Rows.rack (blockAt hall (racksAt + a))) (bodyOf Sent.twoS (blockAt hall (messagesAt + j)))))
@@ -122,7 +121,7 @@ module _ (instance : ℕ) (s : Setup) (range : setupInRange s ≡ true) (small :
             learn-fits s range (fresh-view instance s range small) (whole instance s range small steps .reached .run) a (roundOf n c cf) _
             (exists-agent s count (stepOf 13 a j n c cf v) e) (counted-learns s (bodyOf Rows.reader (blockAt hall (readersAt + a))) (roundOf n c cf));
       })
-  by-code (suc (suc (suc (suc (suc (suc (suc (suc (suc (suc (suc (suc (suc (suc code)))))))))))))) a j n c cf v e = absurd (omega (arith, code-range g _ e .1))
+  by-code (suc (suc (suc (suc (suc (suc (suc (suc (suc (suc (suc (suc (suc (suc code)))))))))))))) a j n c cf v e = absurd (omega (arith, exists-range s count _ e .1))
 
   -- the hall's number
   pub number-mild : (x : Step) → Mild (hallRefusal hall x)

@@ -29,7 +29,7 @@ row-within s f x l = go (byRack (x .code)) (byCoordinator (x .code)) (byBox (x .
 
 module _ (s : Setup) (count : ℕ) (x : Step) (exists : stepExists s count x ≡ true) where
   pub message-within : count ≤ mostMessages → cond (names (x .code)) (messagesAt + x .message) messagesAt < blocksOfHall
-  message-within few = go (names (x .code)) (exists-message s count x exists) s count x exists
+  message-within few = go (names (x .code)) (exists-message s count x exists)
     where
       go : (b : Bool) → (b ≡ true → x .message < count) → cond b (messagesAt + x .message) messagesAt < blocksOfHall
       go true m = omega (arith, m refl, few)
