@@ -3,10 +3,10 @@ use Prim.Native.Nat.{ℕ, _+_, _-_, _<_}
 use native.Mathlib.Omega.{arith}
 use lib.ListN.{length, length-append}
 use mathlib.Core.Path.{_≡_, refl, sym, ap, subst, _∙_}
-use mathlib.Core.Bool.{Bool, true, false, cond, _&&_}
+use mathlib.Core.Bool.{Bool, true, false, cond, not, _&&_}
 use mathlib.Core.List.{List, [], _++_}
-use borrow.Author.Tests.{eq-eqb, ne-eqb}
-use Rattle.below.proofs.Tests.{not-true-false}
+use borrow.Author.Tests.{eq-eqb, ne-eqb, not-true, not-false}
+use Rattle.below.proofs.Tests.{not-true-false, and-false-right}
 use Rattle.records.specs.declared.stamp.Stamp.{Stamp}
 use Rattle.records.specs.Rules.{stampRules}
 use Rattle.words.specs.Bytes.{byte, Small, bytes4, zeros, splice, Spliced}
@@ -34,15 +34,33 @@ module _ {A : Type 0} (k : Kind A) (P : A → Type 0) (proper : Proper k P) (byt
       refusing (not-true-false (good k bytes) (λ g. h (good-length k P proper bytes g))) (v .1)
       (v .0 ∙ ap (λ (b : Bool). cond b 2 1) (sym (ne-eqb (length bytes) blockSize h)))
 
+  -- a block of another kind, or whose zeros or check words are wrong
+  pub read-unframed : Small bytes → length bytes ≡ blockSize → {f : Bool} {n : ℕ} {s : Stamp} {b : A} → f ≡ framed (k .number) (bodyAt + k .body .size) bytes → not f ≡ true →
+      (n ≡ 2) × ((s, b) ≡ decode k []) → Reads k bytes n s b
+  read-unframed small long {f} p h v = refusing unframed (v .1) (v .0 ∙ ap (λ (b : Bool). cond b 2 1) (sym (eq-eqb (length bytes) blockSize long)))
+    where
+      unframed : good k bytes ≡ false
+      unframed =
+          good-tested k P proper bytes small long ∙
+          ap (λ (t : Bool). (k .body .exact bytes bodyAt && t) && kept k (decode k bytes .0) (decode k bytes .1)) (sym p ∙ not-true f h) ∙
+          ap (λ (t : Bool). t && kept k (decode k bytes .0) (decode k bytes .1)) (and-false-right (k .body .exact bytes bodyAt) refl)
+
   module _ (small : Small bytes) (long : length bytes ≡ blockSize) {stamp : Stamp} {body : A} (stamped : stamp ≡ stampAs 0 .get bytes 0) {e : Bool} (got : Got (k .body) bytes bodyAt body e) where
     -- the tests of the reader's code, in its order
-    pub judged : {f m a b n r : Bool} → f ≡ framed (k .number) (bodyAt + k .body .size) bytes → m ≡ e && f → a ≡ stampRules stamp (k .agents (stamp .setup)) →
-        b ≡ k .rules (stamp .setup) (stamp .agent) body → n ≡ a && b → r ≡ m && n → r ≡ good k bytes
-    judged {f} {m} {a} {b} {n} {r} p q s t u v =
-        v ∙ join (q ∙ join (got .tested) p) (u ∙ join s t ∙ rules-of stamped (got .is)) ∙ sym (good-tested k P proper bytes small long)
+    pub judged : {f a b n r : Bool} → f ≡ framed (k .number) (bodyAt + k .body .size) bytes → not f ≡ false → a ≡ stampRules stamp (k .agents (stamp .setup)) →
+        b ≡ k .rules (stamp .setup) (stamp .agent) body → n ≡ a && b → r ≡ e && n → r ≡ good k bytes
+    judged {f} p h s t u v =
+        v ∙ join (and-yes (got .tested) (sym p ∙ not-false f h)) (u ∙ join s t ∙ rules-of stamped (got .is)) ∙ sym (good-tested k P proper bytes small long)
       where
         join : {x y x' y' : Bool} → x ≡ x' → y ≡ y' → x && y ≡ x' && y'
         join w z = rw (w, z)
+
+        and-yes : {x y z : Bool} → x ≡ y → z ≡ true → x ≡ y && z
+        and-yes {y = y} w q = w ∙ go y q
+          where
+            go : (y : Bool) {z : Bool} → z ≡ true → y ≡ y && z
+            go true g = sym g
+            go false g = refl
 
         rules-of : {w : Stamp} {z : A} → stamp ≡ w → body ≡ z → kept k stamp body ≡ kept k w z
         rules-of w z = λ i. kept k (w i) (z i)

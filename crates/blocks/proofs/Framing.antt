@@ -5,9 +5,9 @@ use native.Mathlib.Decide.{decLt}
 use lib.Dec.{eqb}
 use lib.ListN.{length, length-replicate, getD-replicate, List·getD-eq-default}
 use mathlib.Core.Path.{_≡_, refl, sym, ap, subst, _∙_}
-use mathlib.Core.Bool.{Bool, _&&_}
+use mathlib.Core.Bool.{Bool, false, _&&_}
 use mathlib.Core.List.{List, [], _∷_, _++_}
-use borrow.Author.Tests.{eqb-true, eq-eqb}
+use borrow.Author.Tests.{eqb-true, eq-eqb, ne-eqb}
 use Rattle.records.specs.declared.stamp.Stamp.{Stamp}
 use Rattle.words.specs.Bytes.{byte, number4, bytes4, zeros, zeroAt, splice, Spliced}
 use Rattle.words.specs.Sums.{words, wordOf, firstSum, secondSum, firstOf, secondOf}
@@ -104,18 +104,22 @@ rest-zero : (bytes : List ℕ) (end rest : ℕ) → zeroAt (rest % 4) bytes end 
 rest-zero bytes end rest = sym (zero-parts bytes (rest % 4) (4 * (rest / 4)) end) ∙ ap (λ (n : ℕ). zeroAt n bytes end) (omega arith)
 
 -- the parts of the frame's test, and of sealing, as the code has them
-pub framed-is : (kind end : ℕ) (bytes : List ℕ) {f s : ℕ} {z z₁ z₂ x y r : Bool} {g h : ℕ} → z₁ ≡ zeroAt ((wordsEnd - end) % 4) bytes end →
+pub framed-is : (kind end : ℕ) (bytes : List ℕ) {f s : ℕ} {z z₁ z₂ x r : Bool} {g h : ℕ} → byte bytes 2 ≡ kind → z₁ ≡ zeroAt ((wordsEnd - end) % 4) bytes end →
     z₂ ≡ zeroAt (4 * ((wordsEnd - end) / 4)) bytes (end + (wordsEnd - end) % 4) → z ≡ z₁ && z₂ → (f ≡ firstOf bytes) × (s ≡ secondOf bytes) → g ≡ number4 bytes wordsEnd →
-    h ≡ number4 bytes (wordsEnd + 4) → x ≡ eqb g f && eqb h s → y ≡ eqb (byte bytes 2) kind && z → r ≡ y && x → r ≡ framed kind end bytes
+    h ≡ number4 bytes (wordsEnd + 4) → x ≡ eqb g f && eqb h s → r ≡ z && x → r ≡ framed kind end bytes
 unfolding framed
-framed-is kind end bytes {f} {s} {z} {z₁} {z₂} {x} {y} {r} {g} {h} p q t sums a b c d e =
-    e ∙ join (d ∙ ap (λ (b : Bool). eqb (byte bytes 2) kind && b) (t ∙ join p q ∙ rest-zero bytes end (wordsEnd - end))) (c ∙ join (equal a (sums .0)) (equal b (sums .1)))
+framed-is kind end bytes w p q t sums a b c e =
+    e ∙ join (t ∙ join p q ∙ rest-zero bytes end (wordsEnd - end) ∙ ap (λ (b : Bool). b && zeroAt (wordsEnd - end) bytes end) (sym (eq-eqb _ _ w))) (c ∙ join (equal a (sums .0)) (equal b (sums .1)))
   where
     join : {a b a' b' : Bool} → a ≡ a' → b ≡ b' → a && b ≡ a' && b'
     join u v = rw (u, v)
 
     equal : {m n m' n' : ℕ} → m ≡ m' → n ≡ n' → eqb m n ≡ eqb m' n'
     equal u v = rw (u, v)
+
+pub other-kind : (kind end : ℕ) (bytes : List ℕ) → (byte bytes 2 ≡ kind → ⊥) → false ≡ framed kind end bytes
+unfolding framed
+other-kind kind end bytes h = rw (ne-eqb (byte bytes 2) kind h)
 
 pub sealed-is : (end : ℕ) {f s : ℕ} {old one two after : List ℕ} → length old ≡ blockSize → end ≤ wordsEnd → Spliced end (zeros (wordsEnd - end)) old one →
     (f ≡ firstOf one) × (s ≡ secondOf one) → Spliced wordsEnd (bytes4 f) one two → Spliced (wordsEnd + 4) (bytes4 s) two after → Sealed end old after

@@ -80,11 +80,15 @@ pub fn put_stamp(block: &mut [u8], kind: u8, stamp: Stamp)
     words::put_u8(block, 9, stamp.agent);
 }
 
-// Whether a block is of this kind, has zeros from the body's end on, and its check words are right.
+// Whether a block is of this kind, has zeros from the body's end on, and its check words are right. The
+// kind first: most blocks that are not what was named are of another kind.
 pub fn framed(block: &[u8], kind: u8, end: usize) -> bool
     requires { ⌜ (length (now block) ≡ blockSize) × (end ≤ wordsEnd) ⌝ }
     ensures { λ r. ⌜ r ≡ framed kind end (now (block .entry)) ⌝ }
 {
+    if block[2] != kind {
+        return false;
+    }
     let rest = CHECKS - end;
     let odd = rest % 4;
     let zero = both(
@@ -96,7 +100,7 @@ pub fn framed(block: &[u8], kind: u8, end: usize) -> bool
         words::get_u32(block, CHECKS) == sums.first,
         words::get_u32(block, CHECKS + 4) == sums.second,
     );
-    both(both(block[2] == kind, zero), checks)
+    both(zero, checks)
 }
 
 // Zeros from the body's end on, then the check words.

@@ -55,16 +55,18 @@ pub fn read_one_a(block: &[u8]) -> OneARead
     if block.len() != BLOCK {
         return refused(1);
     }
+    if !framed(block, KIND, END) {
+        return refused(2);
+    }
     let stamp = read_stamp(block);
     let setup = stamp.setup;
     let round = read_round(block, ROUND);
     let body = OneA { round };
-    let exact = framed(block, KIND, END);
     let rules = both(
         stamp.rules(setup.coordinators),
         body.rules(setup, stamp.agent),
     );
-    if both(exact, rules) {
+    if rules {
         OneARead {
             refusal: 0,
             stamp,

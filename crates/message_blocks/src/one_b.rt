@@ -68,6 +68,9 @@ pub fn read_one_b(block: &[u8]) -> OneBRead
     if block.len() != BLOCK {
         return refused(1);
     }
+    if !framed(block, KIND, END) {
+        return refused(2);
+    }
     let stamp = read_stamp(block);
     let setup = stamp.setup;
     let round = read_round(block, ROUND);
@@ -75,9 +78,8 @@ pub fn read_one_b(block: &[u8]) -> OneBRead
     let vote_read = read_vote(block, VOTE);
     let vote = vote_read.value;
     let body = OneB { round, vrnd, vote };
-    let exact = both(vote_read.exact, framed(block, KIND, END));
     let rules = both(stamp.rules(setup.boxes), body.rules(setup, stamp.agent));
-    if both(exact, rules) {
+    if both(vote_read.exact, rules) {
         OneBRead {
             refusal: 0,
             stamp,

@@ -50,13 +50,15 @@ pub fn read_propose(block: &[u8]) -> ProposeRead
     if block.len() != BLOCK {
         return refused(1);
     }
+    if !framed(block, KIND, END) {
+        return refused(2);
+    }
     let stamp = read_stamp(block);
     let setup = stamp.setup;
     let reading = read_reading(block, READING);
     let body = Propose { reading };
-    let exact = framed(block, KIND, END);
     let rules = both(stamp.rules(setup.racks), body.rules(setup, stamp.agent));
-    if both(exact, rules) {
+    if rules {
         ProposeRead {
             refusal: 0,
             stamp,

@@ -62,15 +62,17 @@ pub fn read_two_a(block: &[u8]) -> TwoARead
     if block.len() != BLOCK {
         return refused(1);
     }
+    if !framed(block, KIND, END) {
+        return refused(2);
+    }
     let stamp = read_stamp(block);
     let setup = stamp.setup;
     let round = read_round(block, ROUND);
     let line_read = read_line(block, LINE);
     let line = line_read.value;
     let body = TwoA { round, line };
-    let exact = both(line_read.exact, framed(block, KIND, END));
     let rules = both(stamp.rules(setup.racks), body.rules(setup, stamp.agent));
-    if both(exact, rules) {
+    if both(line_read.exact, rules) {
         TwoARead {
             refusal: 0,
             stamp,

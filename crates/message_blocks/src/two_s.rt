@@ -61,18 +61,20 @@ pub fn read_two_s(block: &[u8]) -> TwoSRead
     if block.len() != BLOCK {
         return refused(1);
     }
+    if !framed(block, KIND, END) {
+        return refused(2);
+    }
     let stamp = read_stamp(block);
     let setup = stamp.setup;
     let round = read_round(block, ROUND);
     let page_read = read_page(block, PAGE);
     let page = page_read.value;
     let body = TwoS { round, page };
-    let exact = both(page_read.exact, framed(block, KIND, END));
     let rules = both(
         stamp.rules(setup.coordinators),
         body.rules(setup, stamp.agent),
     );
-    if both(exact, rules) {
+    if both(page_read.exact, rules) {
         TwoSRead {
             refusal: 0,
             stamp,

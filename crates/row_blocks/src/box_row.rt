@@ -68,6 +68,9 @@ pub fn read_box(block: &[u8]) -> BoxRowRead
     if block.len() != BLOCK {
         return refused(1);
     }
+    if !framed(block, KIND, END) {
+        return refused(2);
+    }
     let stamp = read_stamp(block);
     let setup = stamp.setup;
     let rnd = read_round(block, RND);
@@ -75,9 +78,8 @@ pub fn read_box(block: &[u8]) -> BoxRowRead
     let vval_read = read_vote(block, VVAL);
     let vval = vval_read.value;
     let body = BoxRow { rnd, vrnd, vval };
-    let exact = both(vval_read.exact, framed(block, KIND, END));
     let rules = both(stamp.rules(setup.boxes), body.rules(setup, stamp.agent));
-    if both(exact, rules) {
+    if both(vval_read.exact, rules) {
         BoxRowRead {
             refusal: 0,
             stamp,

@@ -69,6 +69,9 @@ pub fn read_coordinator(block: &[u8]) -> CoordinatorRowRead
     if block.len() != BLOCK {
         return refused(1);
     }
+    if !framed(block, KIND, END) {
+        return refused(2);
+    }
     let stamp = read_stamp(block);
     let setup = stamp.setup;
     let crnd = read_round(block, CRND);
@@ -77,10 +80,7 @@ pub fn read_coordinator(block: &[u8]) -> CoordinatorRowRead
     let heard_read = read_heard(block, HEARD);
     let heard = heard_read.value;
     let body = CoordinatorRow { crnd, cval, heard };
-    let exact = both(
-        both(cval_read.exact, heard_read.exact),
-        framed(block, KIND, END),
-    );
+    let exact = both(cval_read.exact, heard_read.exact);
     let rules = both(
         stamp.rules(setup.coordinators),
         body.rules(setup, stamp.agent),

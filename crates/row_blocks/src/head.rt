@@ -45,13 +45,15 @@ pub fn read_head(block: &[u8]) -> HeadRead
     if block.len() != BLOCK {
         return refused(1);
     }
+    if !framed(block, KIND, END) {
+        return refused(2);
+    }
     let stamp = read_stamp(block);
     let setup = stamp.setup;
     let count = words::get_u16(block, COUNT);
     let body = Head { count };
-    let exact = framed(block, KIND, END);
     let rules = both(stamp.rules(1), body.rules(setup, stamp.agent));
-    if both(exact, rules) {
+    if rules {
         HeadRead {
             refusal: 0,
             stamp,

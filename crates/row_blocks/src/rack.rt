@@ -62,15 +62,17 @@ pub fn read_rack(block: &[u8]) -> RackRowRead
     if block.len() != BLOCK {
         return refused(1);
     }
+    if !framed(block, KIND, END) {
+        return refused(2);
+    }
     let stamp = read_stamp(block);
     let setup = stamp.setup;
     let prnd = read_round(block, PRND);
     let pval_read = read_line(block, PVAL);
     let pval = pval_read.value;
     let body = RackRow { prnd, pval };
-    let exact = both(pval_read.exact, framed(block, KIND, END));
     let rules = both(stamp.rules(setup.racks), body.rules(setup, stamp.agent));
-    if both(exact, rules) {
+    if both(pval_read.exact, rules) {
         RackRowRead {
             refusal: 0,
             stamp,

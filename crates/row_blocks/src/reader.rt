@@ -66,6 +66,9 @@ pub fn read_reader(block: &[u8]) -> ReaderRowRead
     if block.len() != BLOCK {
         return refused(1);
     }
+    if !framed(block, KIND, END) {
+        return refused(2);
+    }
     let stamp = read_stamp(block);
     let setup = stamp.setup;
     let page_read = read_page(block, PAGE);
@@ -75,10 +78,7 @@ pub fn read_reader(block: &[u8]) -> ReaderRowRead
     let blanks_read = read_blanks(block, BLANKS);
     let blanks = blanks_read.value;
     let body = ReaderRow { page, held, blanks };
-    let exact = both(
-        both(page_read.exact, both(held_read.exact, blanks_read.exact)),
-        framed(block, KIND, END),
-    );
+    let exact = both(page_read.exact, both(held_read.exact, blanks_read.exact));
     let rules = both(stamp.rules(setup.readers), body.rules(setup, stamp.agent));
     if both(exact, rules) {
         ReaderRowRead {
