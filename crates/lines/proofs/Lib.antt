@@ -1,4 +1,5 @@
 pub mod Scanning
 pub mod ScanIsLine
+pub mod Feeding
 pub mod Writing
 pub mod Unique

@@ -1,5 +1,5 @@
 -- The scan finds what the line says: `scan-is-line`, over any split into parts (`feed-parts`).
-use Prim.Native.Nat.{ℕ, zero, suc, _+_, _*_, _-_, _^_, _≤_, _<_}
+use Prim.Native.Nat.{ℕ, suc, _+_, _*_, _-_, _^_, _≤_}
 use native.Mathlib.Omega.{arith}
 use native.Mathlib.Nat.{add-zero, mul-assoc, mul-left-comm, add-mul, pow-succ', pow-le-pow-right, le-mul-of-pos-right}
 use native.Mathlib.Numerals.{add-one}

@@ -8,6 +8,8 @@ use denote.Ref.{now}
 use Rattle.below.proofs.Unique.{Determines}
 use Rattle.lines.proofs.scan.Scan.feed.Kinds as feed-kinds
 use Rattle.lines.proofs.scan.Scan.feed.Reads as feed
+use Rattle.lines.proofs.scan.Scan.feed_on.Kinds as feed-on-kinds
+use Rattle.lines.proofs.scan.Scan.feed_on.Reads as feed-on
 use Rattle.lines.proofs.scan.Scan.finish.Kinds as finish-kinds
 use Rattle.lines.proofs.scan.Scan.finish.Reads as finish
 use Rattle.lines.proofs.text.put_answer.Kinds as put-answer-kinds
@@ -19,6 +21,9 @@ use Rattle.lines.proofs.text.put_page_line.Reads as put-page-line
 
 pub feed-unique : Determines 0 feed-kinds.ps feed-kinds.r feed.Post
 feed-unique κs a x y s t p q = p ∙ sym q
+
+pub feed-on-unique : Determines 1 feed-on-kinds.ps feed-on-kinds.r feed-on.Post
+feed-on-unique κs a x y s t p q = λ i. record { scan = (p .scanned ∙ sym (q .scanned)) i; to = (p .stopped ∙ sym (q .stopped)) i }
 
 pub finish-unique : Determines 0 finish-kinds.ps finish-kinds.r finish.Post
 finish-unique κs a x y s t p q = p ∙ sym q

@@ -14,8 +14,8 @@ use Rattle.pages.specs.declared.line.Mark.{Mark}
 use Rattle.pages.specs.declared.line.Mark.the-variants.{Absent, Nil, Reading as reads}
 use Rattle.words.specs.Bytes.{splice}
 use Rattle.words.proofs.Splices.{next}
-use Rattle.lines.specs.Fields.{space}
-use Rattle.lines.specs.Texts.{lineFeed, decimalBy, decimal, fieldText, answerText, markText, pageLineText, answerRoom, pageLineRoom, Put, PutIn}
+use Rattle.lines.specs.Fields.{space, lineFeed}
+use Rattle.lines.specs.Texts.{decimalBy, decimal, fieldText, answerText, markText, pageLineText, answerRoom, pageLineRoom, Put, PutIn}
 
 -- two texts in a row
 pub put-next : {at there end : ℕ} {a b old mid after : List ℕ} → at + length a ≤ length old → Put at a old mid there → Put there b mid after end →

@@ -9,6 +9,9 @@ use Rattle.lines.specs.declared.scan.NumbersRead.{NumbersRead}
 abbrev pub space : ℕ
 space = 32
 
+abbrev pub lineFeed : ℕ
+lineFeed = 10
+
 abbrev pub fieldsOfLine : ℕ
 fieldsOfLine = 7
 
@@ -29,6 +32,11 @@ inFront b (part ∷ later) = (b ∷ part) ∷ later
 unfoldable pub fieldsOf : List ℕ → List (List ℕ)
 fieldsOf [] = [] ∷ []
 fieldsOf (b ∷ later) = cond (eqb b space) ([] ∷ fieldsOf later) (inFront b (fieldsOf later))
+
+-- what stands before the first LF
+unfoldable pub beforeLf : List ℕ → List ℕ
+beforeLf [] = []
+beforeLf (b ∷ later) = cond (eqb b lineFeed) [] (b ∷ beforeLf later)
 
 -- '0' to '9'
 abbrev pub isDigit : ℕ → Bool

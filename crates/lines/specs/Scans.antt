@@ -1,12 +1,13 @@
 -- The scan, which takes a line byte by byte. That it finds what the line says is `scan-is-line` (proofs/ScanIsLine.antt).
 use Prim.Native.Nat.{ℕ, _+_, _*_, _-_}
 use lib.Dec.{leb, ltb, eqb}
-use lib.ListN.{replicate, set}
+use lib.ListN.{length, drop, replicate, set}
+use mathlib.Core.Path.{_≡_}
 use mathlib.Core.Bool.{Bool, true, false, cond, not, _&&_}
 use mathlib.Core.List.{List, [], _∷_}
 use Rattle.lines.specs.declared.scan.Scan.{Scan}
 use Rattle.lines.specs.declared.scan.NumbersRead.{NumbersRead}
-use Rattle.lines.specs.Fields.{space, fieldsOfLine, largest, isDigit, answerOf}
+use Rattle.lines.specs.Fields.{space, beforeLf, fieldsOfLine, largest, isDigit, answerOf}
 
 abbrev pub start : Scan
 start = record { numbers = replicate fieldsOfLine 0; ended = 0; value = 0; digits = false; bad = false }
@@ -32,10 +33,15 @@ endField s =
 unfoldable pub feedOf : Scan → ℕ → Scan
 feedOf s b = cond (eqb b space) (endField s) (cond (isDigit b) (withDigit s (b - 48)) (spoiled s))
 
-unfoldable pub finishOf : Scan → NumbersRead
-finishOf s = answerOf (eqb (s .ended) 6 && fieldReads s && not (s .bad)) (set (s .numbers) 6 (s .value))
-
 -- the bytes of a line, or of a part of one
 unfoldable pub feedAll : Scan → List ℕ → Scan
 feedAll s [] = s
 feedAll s (b ∷ later) = feedAll (feedOf s b) later
+
+-- what is left of the open line from a place of a piece of input on: the scan after it, and the place of its LF or the end
+pub record FedOn (s : Scan) (bytes : List ℕ) (from : ℕ) (scan : Scan) (to : ℕ) : Type 0 where
+  pub scanned : scan ≡ feedAll s (beforeLf (drop from bytes))
+  pub stopped : to ≡ from + length (beforeLf (drop from bytes))
+
+unfoldable pub finishOf : Scan → NumbersRead
+finishOf s = answerOf (eqb (s .ended) 6 && fieldReads s && not (s .bad)) (set (s .numbers) 6 (s .value))

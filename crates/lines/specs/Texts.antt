@@ -8,10 +8,7 @@ use mathlib.Core.List.{List, [], _∷_, _++_}
 use Rattle.pages.specs.declared.line.Mark.{Mark}
 use Rattle.pages.specs.declared.line.Mark.the-variants.{Absent, Nil, Reading as reads}
 use Rattle.words.specs.Bytes.{splice, Spliced}
-use Rattle.lines.specs.Fields.{space}
-
-abbrev pub lineFeed : ℕ
-lineFeed = 10
+use Rattle.lines.specs.Fields.{space, lineFeed}
 
 -- a number of at most k digits, the highest first and none of them a leading zero
 unfoldable pub decimalBy : ℕ → ℕ → List ℕ

@@ -8,6 +8,7 @@ mod scan;
 mod text;
 
 pub use scan::FIELDS;
+pub use scan::Fed;
 pub use scan::LARGEST;
 pub use scan::NumbersRead;
 pub use scan::Scan;

@@ -1,6 +1,6 @@
 // A line of input, judged while it streams.
 ghost use mathlib.Core.Path.{_≡_};
-ghost use Rattle.lines.specs.Scans.{withDigit, endField, spoiled, feedOf, fieldReads, finishOf};
+ghost use Rattle.lines.specs.Scans.{withDigit, endField, spoiled, feedOf, fieldReads, finishOf, FedOn};
 use below::both;
 
 // One space stands between fields, and a line has seven.
@@ -11,6 +11,8 @@ const LAST: usize = 6;
 pub const LARGEST: u64 = 4294967295;
 
 const SPACE: u8 = 32;
+
+const LF: u8 = 10;
 
 const ZERO: u8 = 48;
 
@@ -31,6 +33,12 @@ pub struct Scan {
 pub struct NumbersRead {
     pub readable: bool,
     pub numbers: [u32; FIELDS],
+}
+
+// The scan after a part of a line, and the place where that ends.
+pub struct Fed {
+    pub scan: Scan,
+    pub to: usize,
 }
 
 fn wide(digit: u8) -> u64
@@ -102,6 +110,23 @@ impl Scan {
             return self.spoil();
         }
         self.with_digit(byte - ZERO)
+    }
+
+    // The open line from a place of a piece of input on, up to its LF or the piece's end.
+    pub fn feed_on(self, bytes: &[u8], from: usize) -> Fed
+        ensures { λ r. ⌜ FedOn self (now (bytes .entry)) from (r .scan) (r .to) ⌝ }
+    {
+        let mut scan = self;
+        let mut to = from;
+        while to < bytes.len() {
+            let byte = bytes[to];
+            if byte == LF {
+                return Fed { scan, to };
+            }
+            scan = scan.feed(byte);
+            to += 1;
+        }
+        Fed { scan, to }
     }
 
     // The line is at its end.

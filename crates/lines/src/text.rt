@@ -4,7 +4,7 @@ ghost use mathlib.Core.List.{_∷_, []};
 ghost use Prim.Native.Nat.{_+_, _≤_};
 ghost use lib.Dec.{leb};
 ghost use lib.ListN.{length};
-ghost use Rattle.lines.specs.Texts.{lineFeed, decimal, fieldText, answerText, unreadableText, markText, pageLineText, answerRoom, pageLineRoom, Put, PutIn};
+ghost use Rattle.lines.specs.Texts.{decimal, fieldText, answerText, unreadableText, markText, pageLineText, answerRoom, pageLineRoom, Put, PutIn};
 use pages::Line;
 use pages::Mark;
 use words::put_u8;

@@ -1,10 +1,9 @@
 -- A run of turns: two in a row are one, a piece of input in two parts is two pieces, and no turn prints more than its room.
-use Prim.Native.Nat.{ℕ, _+_, _*_, _≤_, _<_}
-use native.Mathlib.Numerals.{add-one}
+use Prim.Native.Nat.{ℕ, _+_, _*_, _-_, _≤_, _<_}
 use native.Mathlib.Omega.{arith}
 use lib.Dec.{eqb}
-use lib.ListN.{length, getD, take, length-append, length-drop}
-use lib.Seq.{length-take-le, take-suc, take-all}
+use lib.ListN.{length, take, drop, length-append, length-drop}
+use lib.Seq.{length-take-le, take-all, take-add}
 use mathlib.Core.Path.{_≡_, refl, sym, ap, subst, _∙_}
 use mathlib.Core.Bool.{Bool, true, false, cond}
 use mathlib.Core.List.{List, [], _∷_, _++_, append-assoc, append-nil}
@@ -13,13 +12,14 @@ use Rattle.words.specs.Bytes.{splice}
 use Rattle.hall.specs.Halls.{setupRefusal}
 use Rattle.lines.specs.declared.scan.NumbersRead.{NumbersRead}
 use Rattle.lines.specs.Scans.{finishOf}
-use Rattle.lines.specs.Texts.{lineFeed, answerRoom, Put}
+use Rattle.lines.specs.Fields.{lineFeed}
+use Rattle.lines.specs.Texts.{answerRoom, Put}
 use Rattle.lines.proofs.Writing.{put-next, answer-short}
 use Rattle.rehearsing.specs.declared.rehearsal.Stage.{Stage}
 use Rattle.rehearsing.specs.declared.rehearsal.Stage.the-variants.{Setup, Steps, Over}
 use Rattle.rehearsing.specs.declared.rehearsal.Rehearsal.{Rehearsal}
 use Rattle.rehearsing.specs.Rehearsals.{instanceIn, setupIn}
-use Rattle.rehearsing.specs.Turns.{Turn, turn, setupTurn, stepTurn, lineTurn, byteTurn, andThen, playOf, lastTurn, stagePages, endOf, pagesRoom, endRoom, Turned, TurnedIn}
+use Rattle.rehearsing.specs.Turns.{Turn, turn, setupTurn, stepTurn, lineTurn, byteTurn, andThen, playOf, lastTurn, stagePages, endOf, pagesRoom, endRoom, Turned, Parted, TurnedIn}
 use Rattle.rehearsing.proofs.Turning.{put-nothing}
 
 -- two turns in a row
@@ -44,7 +44,7 @@ play-parts r hall (x ∷ a) b =
     ap (andThen (byteTurn r hall x)) (play-parts (byteTurn r hall x .rehearsal) (byteTurn r hall x .hall) a b) ∙
     then-assoc (byteTurn r hall x) (playOf (byteTurn r hall x .rehearsal) (byteTurn r hall x .hall) a) _
 
-play-one : (r : Rehearsal) (hall : List ℕ) (b : ℕ) → playOf r hall (b ∷ []) ≡ byteTurn r hall b
+pub play-one : (r : Rehearsal) (hall : List ℕ) (b : ℕ) → playOf r hall (b ∷ []) ≡ byteTurn r hall b
 unfolding playOf
 play-one r hall b = ap (turn (byteTurn r hall b .rehearsal) (byteTurn r hall b .hall)) (append-nil (byteTurn r hall b .text))
 
@@ -74,13 +74,13 @@ play-short r hall (b ∷ input) =
       play-short (byteTurn r hall b .rehearsal) (byteTurn r hall b .hall) input,
     )
 
--- The loop over a piece: after k bytes what stands is what the first k of them give.
+-- The loop over a piece: at each place what stands is what the bytes before it give.
 module _ (s : Rehearsal) (before input old : List ℕ) where
   pub play-start : Turned (playOf s before (take 0 input)) 0 before old old s 0
   unfolding playOf
   play-start = record { played = refl; left = refl; printed = put-nothing 0 old }
 
-  -- what is printed after k bytes leaves room for the next
+  -- what is printed before a place leaves room for one more line
   pub room-for-more : {k to : ℕ} {hall out : List ℕ} {r : Rehearsal} → k < length input → answerRoom * length input ≤ length old →
       Turned (playOf s before (take k input)) 0 hall old out r to → (to + answerRoom ≤ length out) × (to ≤ length old)
   room-for-more {k} l m t =
@@ -89,18 +89,21 @@ module _ (s : Rehearsal) (before input old : List ℕ) where
       let k' = t .printed .ends in
       (omega (arith, t .printed .spliced .kept), omega arith)
 
-  pub play-more : {k to next : ℕ} {hall hall′ out after : List ℕ} {r r′ : Rehearsal} → k < length input → answerRoom * length input ≤ length old →
-      Turned (playOf s before (take k input)) 0 hall old out r to → Turned (byteTurn r hall (getD input k 0)) to hall′ out after r′ next →
-      Turned (playOf s before (take (k + 1) input)) 0 hall′ old after r′ next
-  play-more {k} {to} {next} {hall} {hall′} {out} {after} {r} {r′} l m t u =
+  pub play-more : {k place to next : ℕ} {hall hall′ out after : List ℕ} {r r′ : Rehearsal} → k < length input → answerRoom * length input ≤ length old →
+      Turned (playOf s before (take k input)) 0 hall old out r to → Parted r hall input k to hall′ out after r′ next place →
+      Turned (playOf s before (take place input)) 0 hall′ old after r′ next
+  play-more {k} {place} {to} {next} {hall} {hall′} {out} {after} {r} {r′} l m t u =
       subst (λ (x : Turn). Turned x 0 hall′ old after r′ next) (sym more)
-      (then-turned (playOf s before (take k input)) (λ q h. byteTurn q h (getD input k 0)) (room-for-more l m t .1) t u)
+      (then-turned (playOf s before (take k input)) (λ q h. playOf q h (take (place - k) (drop k input))) (room-for-more l m t .1) t (u .turned))
     where
-      more : playOf s before (take (k + 1) input) ≡
-          andThen (playOf s before (take k input)) (byteTurn (playOf s before (take k input) .rehearsal) (playOf s before (take k input) .hall) (getD input k 0))
+      there : place ≡ k + (place - k)
+      there = let f = u .further in omega arith
+
+      more : playOf s before (take place input) ≡
+          andThen (playOf s before (take k input)) (playOf (playOf s before (take k input) .rehearsal) (playOf s before (take k input) .hall) (take (place - k) (drop k input)))
       more =
-          ap (playOf s before) (ap (λ (n : ℕ). take n input) (add-one k) ∙ take-suc input k 0 l) ∙ play-parts s before (take k input) (getD input k 0 ∷ []) ∙
-          ap (andThen (playOf s before (take k input))) (play-one _ _ (getD input k 0))
+          ap (playOf s before) (ap (λ (n : ℕ). take n input) there ∙ take-add k (place - k) input) ∙
+          play-parts s before (take k input) (take (place - k) (drop k input))
 
   pub play-ends : {k to : ℕ} {hall out : List ℕ} {r : Rehearsal} → length input ≤ k → Turned (playOf s before (take k input)) 0 hall old out r to →
       Turned (playOf s before input) 0 hall old out r to

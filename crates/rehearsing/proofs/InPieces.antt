@@ -5,7 +5,7 @@ use native.Mathlib.Omega.{arith}
 use lib.Dec.{leb, ltb, eqb}
 use lib.ListN.{length}
 use borrow.Author.Tests.{leb-true, eqb-true}
-use mathlib.Core.Path.{_≡_, refl, sym, ap, subst, _∙_}
+use mathlib.Core.Path.{_≡_, refl, sym, ap, _∙_}
 use mathlib.Core.Bool.{Bool, true, false, cond, _&&_}
 use mathlib.Core.List.{List, [], _∷_, _++_, append-assoc, append-nil}
 use Rattle.below.specs.Refusals.{granted}
@@ -16,15 +16,15 @@ use Rattle.rounds.specs.Setups.{oneTo, setupInRange, mostRacks, mostBoxes, most
 use Rattle.hall.specs.Halls.{hallSize, setupRefusal, setupAfter}
 use Rattle.hall.specs.Steps.{hallRefusal, hallAfter}
 use Rattle.lines.specs.declared.scan.NumbersRead.{NumbersRead}
-use Rattle.lines.specs.Fields.{inFront, numbersOf}
+use Rattle.lines.specs.Fields.{lineFeed, inFront, numbersOf}
 use Rattle.lines.specs.Scans.{start, feedOf, finishOf, feedAll}
-use Rattle.lines.specs.Texts.{lineFeed, answerText, unreadableText}
+use Rattle.lines.specs.Texts.{answerText, unreadableText}
 use Rattle.lines.proofs.ScanIsLine.{feed-parts, scan-is-line}
 use Rattle.rehearsing.specs.declared.rehearsal.Stage.{Stage}
 use Rattle.rehearsing.specs.declared.rehearsal.Stage.the-variants.{Setup as atSetup, Steps, Over}
 use Rattle.rehearsing.specs.declared.rehearsal.Rehearsal.{Rehearsal}
 use Rattle.rehearsing.specs.Rehearsals.{linesOf, instanceIn, setupIn, stepIn, messagesIn, stepsText, linesText, rehearsalText}
-use Rattle.rehearsing.specs.Turns.{Turn, turn, beginning, setupTurn, stepTurn, lineTurn, byteTurn, andThen, playOf, lastTurn, stagePages, endOf}
+use Rattle.rehearsing.specs.Turns.{Turn, turn, beginning, setupTurn, stepTurn, lineTurn, byteTurn, playOf, lastTurn, stagePages, endOf}
 use Rattle.rehearsing.proofs.InParts.{play-parts}
 
 -- all that is printed from a state on, where this input follows and then ends

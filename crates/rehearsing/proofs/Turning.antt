@@ -1,7 +1,6 @@
 -- Turns, by the ways through the code.
 use Prim.Native.Nat.{ℕ, _+_, _≤_}
 use native.Mathlib.Omega.{arith}
-use lib.Dec.{eqb}
 use lib.ListN.{length}
 use borrow.Author.Tests.{eq-eqb, ne-eqb}
 use mathlib.Core.Path.{_≡_, refl, sym, ap, subst, _∙_}
@@ -9,17 +8,16 @@ use mathlib.Core.Bool.{Bool, true, false, cond}
 use mathlib.Core.List.{List, []}
 use Rattle.below.specs.Refusals.{granted}
 use Rattle.words.proofs.Splices.{splice-none}
-use Rattle.hall.specs.Halls.{hallSize, setupRefusal, setupAfter, Sets}
-use Rattle.hall.specs.Steps.{countOf, hallRefusal, hallAfter, Steps as Stepped}
+use Rattle.hall.specs.Halls.{hallSize, setupRefusal, Sets}
+use Rattle.hall.specs.Steps.{countOf, hallRefusal, Steps as Stepped}
 use Rattle.lines.specs.declared.scan.NumbersRead.{NumbersRead}
-use Rattle.lines.specs.Scans.{feedOf, finishOf}
-use Rattle.lines.specs.Texts.{lineFeed, answerText, unreadableText, answerRoom, Put, PutIn}
+use Rattle.lines.specs.Texts.{answerText, unreadableText, answerRoom, Put, PutIn}
 use Rattle.lines.proofs.Writing.{put-with-room}
 use Rattle.rehearsing.specs.declared.rehearsal.Stage.{Stage}
 use Rattle.rehearsing.specs.declared.rehearsal.Stage.the-variants.{Setup, Steps, Over}
 use Rattle.rehearsing.specs.declared.rehearsal.Rehearsal.{Rehearsal}
 use Rattle.rehearsing.specs.Rehearsals.{instanceIn, setupIn, stepIn, messagesIn}
-use Rattle.rehearsing.specs.Turns.{Turn, turn, beginning, setupTurn, stepTurn, lineTurn, byteTurn, Turned}
+use Rattle.rehearsing.specs.Turns.{Turn, turn, beginning, setupTurn, stepTurn, lineTurn, Turned}
 
 -- the message count
 pub no-messages : (hall : List ℕ) → (length hall ≡ hallSize → ⊥) → 0 ≡ messagesIn hall
@@ -91,16 +89,3 @@ put-nothing at old = record { spliced = record { is = sym (splice-none at old); 
 pub at-over : (read : NumbersRead) {at : ℕ} {hall old : List ℕ} {r : Rehearsal} {stage : Stage} → stage ≡ Over → r ≡ beginning Over →
     Turned (lineTurn stage hall read) at hall old old r at
 at-over read {at} {hall} {old} e p = rw e (record { played = p; left = refl; printed = put-nothing at old })
-
--- one byte
-module _ (s : Rehearsal) (before : List ℕ) (b : ℕ) where
-  pub line-ends : {at next : ℕ} {hall old after : List ℕ} {r : Rehearsal} {read : NumbersRead} → b ≡ lineFeed → read ≡ finishOf (s .scan) →
-      Turned (lineTurn (s .stage) before read) at hall old after r next → Turned (byteTurn s before b) at hall old after r next
-  unfolding byteTurn
-  line-ends {at} {next} {hall} {old} {after} {r} e f t =
-      rw (eq-eqb b lineFeed e) (subst (λ (x : NumbersRead). Turned (lineTurn (s .stage) before x) at hall old after r next) f t)
-
-  pub line-goes-on : {at : ℕ} {old : List ℕ} {r : Rehearsal} → (b ≡ lineFeed → ⊥) → r ≡ record { stage = s .stage; scan = feedOf (s .scan) b; begun = true } →
-      Turned (byteTurn s before b) at before old old r at
-  unfolding byteTurn
-  line-goes-on {at} {old} n e = rw (ne-eqb b lineFeed n) (record { played = e; left = refl; printed = put-nothing at old })

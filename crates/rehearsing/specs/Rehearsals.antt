@@ -15,8 +15,8 @@ use Rattle.acts.specs.declared.step.Step.{Step}
 use Rattle.acts.specs.Acts.{bodyOf}
 use Rattle.hall.specs.Halls.{hallSize, readersAt, blockAt, setupRefusal, setupAfter}
 use Rattle.hall.specs.Steps.{countOf, hallRefusal, hallAfter}
-use Rattle.lines.specs.Fields.{inFront, numbersOf}
-use Rattle.lines.specs.Texts.{lineFeed, answerText, unreadableText, pageLineText}
+use Rattle.lines.specs.Fields.{lineFeed, inFront, numbersOf}
+use Rattle.lines.specs.Texts.{answerText, unreadableText, pageLineText}
 
 -- LF ends a line, the last may lack it
 unfoldable pub linesOf : List ℕ → List (List ℕ)

@@ -1,8 +1,8 @@
 -- The rehearsal byte by byte: what is kept between bytes, and what each adds to the output. That over the whole input, in whatever
 -- pieces it comes, this is the rehearsal's text is `rehearsal-in-pieces` (proofs/InPieces.antt).
-use Prim.Native.Nat.{ℕ, _+_, _*_, _≤_, min}
+use Prim.Native.Nat.{ℕ, _+_, _*_, _-_, _≤_, _<_, min}
 use lib.Dec.{eqb}
-use lib.ListN.{length, take}
+use lib.ListN.{length, take, drop}
 use mathlib.Core.Path.{_≡_}
 use mathlib.Core.Bool.{Bool, true, false, cond}
 use mathlib.Core.List.{List, [], _∷_, _++_}
@@ -13,7 +13,8 @@ use Rattle.hall.specs.Halls.{setupRefusal, setupAfter}
 use Rattle.hall.specs.Steps.{hallRefusal, hallAfter}
 use Rattle.lines.specs.declared.scan.NumbersRead.{NumbersRead}
 use Rattle.lines.specs.Scans.{start, feedOf, finishOf}
-use Rattle.lines.specs.Texts.{lineFeed, answerText, unreadableText, answerRoom, pageLineRoom, Put}
+use Rattle.lines.specs.Fields.{lineFeed}
+use Rattle.lines.specs.Texts.{answerText, unreadableText, answerRoom, pageLineRoom, Put}
 use Rattle.rehearsing.specs.declared.rehearsal.Stage.{Stage}
 use Rattle.rehearsing.specs.declared.rehearsal.Stage.the-variants.{Setup, Steps, Over}
 use Rattle.rehearsing.specs.declared.rehearsal.Rehearsal.{Rehearsal}
@@ -96,6 +97,12 @@ pub record Turned (t : Turn) (at : ℕ) (hall old after : List ℕ) (rehearsal :
   pub played : rehearsal ≡ t .rehearsal
   pub left : hall ≡ t .hall
   pub printed : Put at (t .text) old after next
+
+-- the same of a part of a piece of input that begins at a place, and the place behind it
+pub record Parted (r : Rehearsal) (hall input : List ℕ) (from at : ℕ) (hallAfter old after : List ℕ) (rehearsal : Rehearsal) (next place : ℕ) : Type 0 where
+  pub further : from < place
+  pub inside : place ≤ length input
+  pub turned : Turned (playOf r hall (take (place - from) (drop from input))) at hallAfter old after rehearsal next
 
 -- the same at the front of the output where it has room for whatever the turn prints, else nothing is done
 pub record TurnedIn (enough : Bool) (r : Rehearsal) (hall : List ℕ) (t : Turn) (hallAfter old after : List ℕ) (rehearsal : Rehearsal) (next : ℕ) : Type 0 where

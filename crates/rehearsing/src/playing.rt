@@ -1,15 +1,15 @@
 // The rehearsal's two public functions: a piece of input, and its end.
-ghost use Prim.Native.Nat.{_+_, _*_, _/_, _≤_};
+ghost use Prim.Native.Nat.{_*_, _/_, _≤_};
 ghost use lib.Dec.{leb};
 ghost use lib.ListN.{length};
-ghost use mathlib.Core.Path.{_≡_};
 ghost use Rattle.lines.specs.Texts.{answerRoom};
 ghost use Rattle.rehearsing.specs.Turns.{lastTurn, playOf, endOf, endRoom, Turned, TurnedIn};
 use crate::pages_out::stage_pages;
+use crate::rehearsal::Part;
 use crate::rehearsal::Played;
 use crate::rehearsal::Rehearsal;
-use crate::turns::byte_turn;
 use crate::turns::line_turn;
+use crate::turns::part_turn;
 use lines::ANSWER_ROOM;
 
 // The most bytes that the end of a rehearsal prints: one answer, and a line for each of 4 readers
@@ -20,13 +20,22 @@ fn play_all(hall: &mut [u8], rehearsal: Rehearsal, input: &[u8], out: &mut [u8])
     requires { ⌜ answerRoom * length (now input) ≤ length (now out) ⌝ }
     ensures { λ r. ⌜ Turned (playOf rehearsal (now (hall .entry)) (now (input .entry))) 0 (now (hall .exit)) (now (out .entry)) (now (out .exit)) (r .rehearsal) (r .to) ⌝ }
 {
-    let mut played = Played { rehearsal, to: 0 };
-    for k in 0..input.len() {
-        let state = played.rehearsal;
-        let to = played.to;
-        played = byte_turn(hall, state, input[k], out, to);
+    let mut part = Part {
+        rehearsal,
+        to: 0,
+        from: 0,
+    };
+    while part.from < input.len() {
+        let state = part.rehearsal;
+        let to = part.to;
+        let from = part.from;
+        part = part_turn(hall, state, input, from, out, to);
     }
-    played
+    let state = part.rehearsal;
+    Played {
+        rehearsal: state,
+        to: part.to,
+    }
 }
 
 // A piece of the input, of any length: its text goes to the front of the output, which has room for

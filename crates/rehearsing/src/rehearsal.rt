@@ -1,7 +1,5 @@
 // What is kept between two bytes of the input.
 ghost use mathlib.Core.Path.{_≡_};
-ghost use mathlib.Core.Bool.{true, false};
-ghost use Rattle.lines.specs.Scans.{feedOf};
 ghost use Rattle.rehearsing.specs.Turns.{beginning, isOver};
 use lines::Scan;
 
@@ -26,6 +24,13 @@ pub struct Played {
     pub to: usize,
 }
 
+// The same after a part of a line, and the place of the input behind it.
+pub(crate) struct Part {
+    pub rehearsal: Rehearsal,
+    pub to: usize,
+    pub from: usize,
+}
+
 impl Rehearsal {
     pub const START: Rehearsal = Rehearsal {
         stage: Stage::Setup,
@@ -41,19 +46,6 @@ impl Rehearsal {
             stage,
             scan: Scan::START,
             begun: false,
-        }
-    }
-
-    // A byte that does not end the line.
-    pub(crate) fn feed(self, byte: u8) -> Rehearsal
-        ensures { λ r. ⌜ r ≡ record { stage = self .stage; scan = feedOf (self .scan) byte; begun = true } ⌝ }
-    {
-        let stage = self.stage;
-        let scan = self.scan.feed(byte);
-        Rehearsal {
-            stage,
-            scan,
-            begun: true,
         }
     }
 

@@ -1,12 +1,13 @@
 // Lines and bytes, each a turn: the state after it, and its text at a place of the output.
-ghost use Prim.Native.Nat.{_+_, _≤_};
+ghost use Prim.Native.Nat.{_+_, _≤_, _<_};
 ghost use lib.ListN.{length};
 ghost use mathlib.Core.Path.{_≡_};
 ghost use mathlib.Core.Bool.{cond};
 ghost use Rattle.lines.specs.Texts.{unreadableText, answerRoom, Put};
 ghost use Rattle.rehearsing.specs.declared.rehearsal.Stage.the-variants.{Setup};
 ghost use Rattle.rehearsing.specs.Rehearsals.{messagesIn};
-ghost use Rattle.rehearsing.specs.Turns.{turn, beginning, setupTurn, stepTurn, lineTurn, byteTurn, Turned};
+ghost use Rattle.rehearsing.specs.Turns.{turn, beginning, setupTurn, stepTurn, lineTurn, Turned, Parted};
+use crate::rehearsal::Part;
 use crate::rehearsal::Played;
 use crate::rehearsal::Rehearsal;
 use crate::rehearsal::Stage;
@@ -21,8 +22,6 @@ use words::get_u16;
 
 // Where the head's body has the message count.
 const COUNT: usize = 10;
-
-const LF: u8 = 10;
 
 fn wide(count: u16) -> u32
     ensures { λ r. ⌜ r ≡ count ⌝ }
@@ -126,26 +125,41 @@ pub(crate) fn line_turn(
     }
 }
 
-// One byte.
-pub(crate) fn byte_turn(
+// What is left of the open line in a piece of input, and its turn where it ends there.
+pub(crate) fn part_turn(
     hall: &mut [u8],
     rehearsal: Rehearsal,
-    byte: u8,
+    input: &[u8],
+    from: usize,
     out: &mut [u8],
     at: usize,
-) -> Played
-    requires { ⌜ at + answerRoom ≤ length (now out) ⌝ }
-    ensures { λ r. ⌜ Turned (byteTurn rehearsal (now (hall .entry)) byte) at (now (hall .exit)) (now (out .entry)) (now (out .exit)) (r .rehearsal) (r .to) ⌝ }
+) -> Part
+    requires { ⌜ (from < length (now input)) × (at + answerRoom ≤ length (now out)) ⌝ }
+    ensures { λ r. ⌜ Parted rehearsal (now (hall .entry)) (now (input .entry)) from at (now (hall .exit)) (now (out .entry)) (now (out .exit)) (r .rehearsal) (r .to) (r .from) ⌝ }
 {
-    if byte == LF {
-        let stage = rehearsal.stage;
-        let read = rehearsal.scan.finish();
-        line_turn(hall, stage, read, out, at)
+    let stage = rehearsal.stage;
+    let fed = rehearsal.scan.feed_on(input, from);
+    let scan = fed.scan;
+    let end = fed.to;
+    if end < input.len() {
+        let behind = end + 1;
+        let played = line_turn(hall, stage, scan.finish(), out, at);
+        let next = played.rehearsal;
+        Part {
+            rehearsal: next,
+            to: played.to,
+            from: behind,
+        }
     } else {
-        let fed = rehearsal.feed(byte);
-        Played {
-            rehearsal: fed,
+        let open = Rehearsal {
+            stage,
+            scan,
+            begun: true,
+        };
+        Part {
+            rehearsal: open,
             to: at,
+            from: end,
         }
     }
 }

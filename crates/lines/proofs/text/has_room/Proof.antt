@@ -1,5 +1,4 @@
 use Rattle.lines.proofs.Writing.{room-past, room-left}
-use borrow.Author.Needs.{needs}
 use Rattle.lines.proofs.text.has_room.Statement.{statement}
 use Rattle.lines.proofs.text.has_room.Tie as tie
 

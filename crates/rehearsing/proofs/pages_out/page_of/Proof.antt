@@ -1,4 +1,3 @@
-use mathlib.Core.Path.{_∙_}
 use Rattle.rehearsing.proofs.PageLines.{page-read}
 use borrow.Author.Needs.{needs}
 use Rattle.rehearsing.proofs.pages_out.page_of.Statement.{statement}
