@@ -2,22 +2,13 @@
  * A board without a C library: x86-64 Linux, by its system calls alone. It starts `main` and prints.
  */
 #include "board.h"
+#include "system_call.h"
 
 #include <stddef.h>
 
 int main(void);
 
 enum { WRITE = 1, EXIT = 60, STANDARD_OUTPUT = 1 };
-
-static long system_call(long number, long a, long b, long c)
-{
-    long result;
-    __asm__ volatile("syscall"
-                     : "=a"(result)
-                     : "a"(number), "D"(a), "S"(b), "d"(c)
-                     : "rcx", "r11", "memory");
-    return result;
-}
 
 void print(const char *text)
 {

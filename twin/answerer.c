@@ -15,22 +15,13 @@
  * was lent, as it is after the call. All numbers are little-endian. A call that
  * touches bytes around what it is lent ends the program with status 3.
  */
+#include "../firmware/system_call.h"
 #include "chinchor.h"
 
 enum { ROOM = 1 << 17, GUARD = 64, PAINT = 0xee };
 
 /* Three lent buffers, each between guards that no call may touch. */
 static uint8_t room[3][GUARD + ROOM + GUARD] __attribute__((aligned(64)));
-
-static long system_call(long number, long a, long b, long c)
-{
-    long result;
-    __asm__ volatile("syscall"
-                     : "=a"(result)
-                     : "a"(number), "D"(a), "S"(b), "d"(c)
-                     : "rcx", "r11", "memory");
-    return result;
-}
 
 enum { READ = 0, WRITE = 1, EXIT = 60 };
 

@@ -17,7 +17,7 @@ use row_blocks::put_box;
 use row_blocks::read_box;
 
 // 3 join.
-pub fn join(
+pub(crate) fn join(
     hall: Stamp,
     late: u8,
     row: &[u8],
@@ -61,7 +61,7 @@ pub fn join(
 }
 
 // 9 take page.
-pub fn take_page(
+pub(crate) fn take_page(
     hall: Stamp,
     late: u8,
     row: &[u8],
@@ -105,7 +105,7 @@ pub fn take_page(
 }
 
 // 10 take reading.
-pub fn take_reading(
+pub(crate) fn take_reading(
     hall: Stamp,
     late: u8,
     row: &[u8],

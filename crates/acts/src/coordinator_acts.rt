@@ -17,7 +17,7 @@ use row_blocks::put_coordinator;
 use row_blocks::read_coordinator;
 
 // 2 start.
-pub fn start(
+pub(crate) fn start(
     hall: Stamp,
     late: u8,
     row: &[u8],
@@ -54,7 +54,7 @@ pub fn start(
 }
 
 // 4 hear.
-pub fn hear(hall: Stamp, late: u8, row: &[u8], message: &[u8], after: &mut [u8]) -> u8
+pub(crate) fn hear(hall: Stamp, late: u8, row: &[u8], message: &[u8], after: &mut [u8]) -> u8
     requires { ⌜ (length (now row) ≡ blockSize) × ((length (now message) ≡ blockSize) × (length (now after) ≡ blockSize)) ⌝ }
     ensures { λ r. ⌜ KeepsOnBoth hall late (now (row .entry)) (now (message .entry)) hearAct r (now (after .entry)) (now (after .exit)) ⌝ }
 {
@@ -81,7 +81,7 @@ pub fn hear(hall: Stamp, late: u8, row: &[u8], message: &[u8], after: &mut [u8])
 }
 
 // 5 open.
-pub fn open(hall: Stamp, late: u8, row: &[u8], after: &mut [u8], sent: &mut [u8]) -> Acted
+pub(crate) fn open(hall: Stamp, late: u8, row: &[u8], after: &mut [u8], sent: &mut [u8]) -> Acted
     requires { ⌜ (length (now row) ≡ blockSize) × ((length (now after) ≡ blockSize) × (length (now sent) ≡ blockSize)) ⌝ }
     ensures { λ r. ⌜ ActsOnRow hall late (now (row .entry)) openAct (r .refusal) (r .sends) (now (after .entry)) (now (sent .entry)) (now (after .exit)) (now (sent .exit)) ⌝ }
 {

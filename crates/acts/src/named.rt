@@ -49,7 +49,7 @@ fn own_row(hall: Stamp, stamp: Stamp) -> bool
 }
 
 // A step that names a row alone.
-pub fn named_row(hall: Stamp, late: u8, row: &[u8], right: bool) -> u8
+pub(crate) fn named_row(hall: Stamp, late: u8, row: &[u8], right: bool) -> u8
     requires { ⌜ length (now row) ≡ blockSize ⌝ }
     ensures { λ r. ⌜ r ≡ rowFound hall late (now (row .entry)) right ⌝ }
 {
@@ -60,7 +60,14 @@ pub fn named_row(hall: Stamp, late: u8, row: &[u8], right: bool) -> u8
 }
 
 // A step that names a row and a message.
-pub fn named_both(hall: Stamp, late: u8, row: &[u8], right: bool, message: &[u8], meant: bool) -> u8
+pub(crate) fn named_both(
+    hall: Stamp,
+    late: u8,
+    row: &[u8],
+    right: bool,
+    message: &[u8],
+    meant: bool,
+) -> u8
     requires { ⌜ (length (now row) ≡ blockSize) × (length (now message) ≡ blockSize) ⌝ }
     ensures { λ r. ⌜ r ≡ bothFound hall late (now (row .entry)) right (now (message .entry)) meant ⌝ }
 {

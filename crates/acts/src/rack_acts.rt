@@ -19,7 +19,7 @@ use row_blocks::put_rack;
 use row_blocks::read_rack;
 
 // 1 offer.
-pub fn offer(
+pub(crate) fn offer(
     hall: Stamp,
     late: u8,
     row: &[u8],
@@ -49,7 +49,7 @@ pub fn offer(
 }
 
 // 6 prepare.
-pub fn prepare(hall: Stamp, late: u8, row: &[u8], message: &[u8], after: &mut [u8]) -> u8
+pub(crate) fn prepare(hall: Stamp, late: u8, row: &[u8], message: &[u8], after: &mut [u8]) -> u8
     requires { ⌜ (length (now row) ≡ blockSize) × ((length (now message) ≡ blockSize) × (length (now after) ≡ blockSize)) ⌝ }
     ensures { λ r. ⌜ KeepsOnBoth hall late (now (row .entry)) (now (message .entry)) prepareAct r (now (after .entry)) (now (after .exit)) ⌝ }
 {
@@ -76,7 +76,7 @@ pub fn prepare(hall: Stamp, late: u8, row: &[u8], message: &[u8], after: &mut [u
 }
 
 // 7 fast.
-pub fn fast(
+pub(crate) fn fast(
     hall: Stamp,
     late: u8,
     row: &[u8],
@@ -120,7 +120,7 @@ pub fn fast(
 }
 
 // 8 blank.
-pub fn blank(
+pub(crate) fn blank(
     hall: Stamp,
     late: u8,
     row: &[u8],

@@ -15,7 +15,7 @@ use row_blocks::put_reader;
 use row_blocks::read_reader;
 
 // 11 note vote.
-pub fn note_vote(hall: Stamp, late: u8, row: &[u8], message: &[u8], after: &mut [u8]) -> u8
+pub(crate) fn note_vote(hall: Stamp, late: u8, row: &[u8], message: &[u8], after: &mut [u8]) -> u8
     requires { ⌜ (length (now row) ≡ blockSize) × ((length (now message) ≡ blockSize) × (length (now after) ≡ blockSize)) ⌝ }
     ensures { λ r. ⌜ KeepsOnBoth hall late (now (row .entry)) (now (message .entry)) noteVoteAct r (now (after .entry)) (now (after .exit)) ⌝ }
 {
@@ -42,7 +42,7 @@ pub fn note_vote(hall: Stamp, late: u8, row: &[u8], message: &[u8], after: &mut 
 }
 
 // 12 note blank.
-pub fn note_blank(hall: Stamp, late: u8, row: &[u8], message: &[u8], after: &mut [u8]) -> u8
+pub(crate) fn note_blank(hall: Stamp, late: u8, row: &[u8], message: &[u8], after: &mut [u8]) -> u8
     requires { ⌜ (length (now row) ≡ blockSize) × ((length (now message) ≡ blockSize) × (length (now after) ≡ blockSize)) ⌝ }
     ensures { λ r. ⌜ KeepsOnBoth hall late (now (row .entry)) (now (message .entry)) noteBlankAct r (now (after .entry)) (now (after .exit)) ⌝ }
 {
@@ -69,7 +69,7 @@ pub fn note_blank(hall: Stamp, late: u8, row: &[u8], message: &[u8], after: &mut
 }
 
 // 13 learn.
-pub fn learn(hall: Stamp, late: u8, row: &[u8], round: Round, after: &mut [u8]) -> u8
+pub(crate) fn learn(hall: Stamp, late: u8, row: &[u8], round: Round, after: &mut [u8]) -> u8
     requires { ⌜ (length (now row) ≡ blockSize) × (length (now after) ≡ blockSize) ⌝ }
     ensures { λ r. ⌜ KeepsOnRow hall late (now (row .entry)) (learnAct round) r (now (after .entry)) (now (after .exit)) ⌝ }
 {

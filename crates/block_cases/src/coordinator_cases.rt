@@ -10,7 +10,7 @@ fn base() -> Block {
         .set(59, 3)
 }
 
-pub fn cases() {
+pub(crate) fn cases() {
     // Box 0 heard, no vote.
     base().tell();
     // c is not the agent.

@@ -5,7 +5,7 @@ fn base() -> Block {
     Block::of(16, 0).set(10, 96)
 }
 
-pub fn cases() {
+pub(crate) fn cases() {
     // 96 messages.
     base().tell();
     // 97.

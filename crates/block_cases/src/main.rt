@@ -44,7 +44,7 @@ fn redo(block: &mut [u8]) {
 
 impl Block {
     // A block of this hall with this kind and agent, and no body yet.
-    pub fn of(kind: u8, agent: u8) -> Block {
+    pub(crate) fn of(kind: u8, agent: u8) -> Block {
         let bytes = [0u8; BLOCK];
         let block = Block { bytes };
         block
@@ -58,7 +58,7 @@ impl Block {
             .set(9, agent)
     }
 
-    pub fn set(mut self, at: usize, value: u8) -> Block {
+    pub(crate) fn set(mut self, at: usize, value: u8) -> Block {
         if at < BLOCK {
             self.bytes[at] = value;
         }
@@ -66,7 +66,7 @@ impl Block {
     }
 
     // The check words redone, and the answer printed.
-    pub fn tell(self) {
+    pub(crate) fn tell(self) {
         let mut bytes = self.bytes;
         redo(&mut bytes);
         tell(&bytes);

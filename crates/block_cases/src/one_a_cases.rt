@@ -5,7 +5,7 @@ fn base() -> Block {
     Block::of(2, 0).set(10, 1).set(13, 3)
 }
 
-pub fn cases() {
+pub(crate) fn cases() {
     // A good block.
     base().tell();
     // n is 0.

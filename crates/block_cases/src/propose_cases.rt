@@ -5,7 +5,7 @@ fn base() -> Block {
     Block::of(1, 1).set(12, 1)
 }
 
-pub fn cases() {
+pub(crate) fn cases() {
     // A good block.
     base().tell();
     // Agent 2 of 2 racks.

@@ -5,7 +5,7 @@ fn base() -> Block {
     Block::of(19, 0).set(13, 3)
 }
 
-pub fn cases() {
+pub(crate) fn cases() {
     // prnd Zero, pval none.
     base().tell();
     // A reading.

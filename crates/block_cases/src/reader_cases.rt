@@ -5,7 +5,7 @@ fn base() -> Block {
     Block::of(20, 0)
 }
 
-pub fn cases() {
+pub(crate) fn cases() {
     // Nothing held.
     base().tell();
     // Agent 1 of 1.

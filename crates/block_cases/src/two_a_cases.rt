@@ -5,7 +5,7 @@ fn base() -> Block {
     Block::of(5, 1).set(10, 1).set(13, 3).set(14, 1)
 }
 
-pub fn cases() {
+pub(crate) fn cases() {
     // Nil.
     base().tell();
     // A reading.

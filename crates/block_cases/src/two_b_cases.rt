@@ -5,7 +5,7 @@ fn base() -> Block {
     Block::of(6, 0).set(10, 1).set(13, 3).set(14, 2).set(17, 1)
 }
 
-pub fn cases() {
+pub(crate) fn cases() {
     // A good block.
     base().tell();
     // Reading 0.

@@ -5,7 +5,7 @@ fn base() -> Block {
     Block::of(4, 1).set(10, 1).set(12, 1).set(13, 3)
 }
 
-pub fn cases() {
+pub(crate) fn cases() {
     // The empty page.
     base().tell();
     // One line of two.

@@ -46,7 +46,7 @@ fn wide16(x: u16) -> usize
     x as usize
 }
 
-pub fn block_at(blocks: &[u8], place: usize) -> &[u8]
+pub(crate) fn block_at(blocks: &[u8], place: usize) -> &[u8]
     requires { ⌜ blockSize * (place + 1) ≤ length (now blocks) ⌝ }
     ensures { λ r. ⌜ (now r ≡ blockAt (now (blocks .entry)) place) × (length (now r) ≡ blockSize) ⌝ }
 {
@@ -110,7 +110,7 @@ fn judge(blocks: &[u8], count: usize) -> Judged
     }
 }
 
-pub fn refusal_of(blocks: &[u8]) -> u8
+pub(crate) fn refusal_of(blocks: &[u8]) -> u8
     ensures { λ r. ⌜ r ≡ blocksRefusal (now (blocks .entry)) granted ⌝ }
 {
     if !is_whole(blocks) {
@@ -123,7 +123,7 @@ pub fn refusal_of(blocks: &[u8]) -> u8
 }
 
 // P, as the first block says; 0 where there is none.
-pub fn racks_of(blocks: &[u8]) -> usize
+pub(crate) fn racks_of(blocks: &[u8]) -> usize
     ensures { λ r. ⌜ r ≡ racksOf (now (blocks .entry)) ⌝ }
 {
     if RACKS_AT < blocks.len() {

@@ -71,7 +71,7 @@ fn enter(list: &mut [u32], count: usize, line: Line) -> usize
 }
 
 // Go by instance, then rack; the walk stops at the first absent line of any instance.
-pub fn walk(blocks: &[u8], count: usize, racks: usize, list: &mut [u32]) -> usize
+pub(crate) fn walk(blocks: &[u8], count: usize, racks: usize, list: &mut [u32]) -> usize
     requires { ⌜ (blockSize * count ≤ length (now blocks)) × ((count * mostRacks ≤ length (now list)) × (racks ≤ mostRacks)) ⌝ }
     ensures { λ r. ⌜ Walked (listOf racks (row count (pageAt (now (blocks .entry))))) r (now (list .exit)) ⌝ }
 {
@@ -88,7 +88,7 @@ pub fn walk(blocks: &[u8], count: usize, racks: usize, list: &mut [u32]) -> usiz
     listed
 }
 
-pub fn copy(from: &[u32], count: usize, list: &mut [u32])
+pub(crate) fn copy(from: &[u32], count: usize, list: &mut [u32])
     requires { ⌜ (count ≤ length (now from)) × (count ≤ length (now list)) ⌝ }
     ensures { λ _. ⌜ now (list .exit) ≡ take count (now (from .entry)) ++ drop count (now (list .entry)) ⌝ }
 {

@@ -2,12 +2,12 @@
 use Prim.Native.Nat.{ℕ}
 use native.Mathlib.Omega.{arith}
 use lib.Dec.{eqb}
-use lib.ListN.{length, take, drop, drop-of-length-le}
+use lib.ListN.{length, take}
 use lib.Seq.{take-all}
 use borrow.Author.Tests.{eq-eqb, ne-eqb, eqb-true, eqb-false}
 use mathlib.Core.Path.{_≡_, refl, sym, ap, subst, _∙_}
 use mathlib.Core.Bool.{Bool, true, false, cond, _&&_, false≢true}
-use mathlib.Core.List.{List, _++_, append-nil}
+use mathlib.Core.List.{List}
 use Rattle.below.specs.Refusals.{unless, granted}
 use Rattle.below.proofs.Tests.{and-left, and-right}
 use Rattle.rounds.specs.Setups.{setupInRange}
@@ -167,8 +167,3 @@ pub lengths : {r : Bool} (row message sent : List ℕ) → r ≡ isBlock row && 
 lengths row message sent e h =
     let rest = and-right (isBlock row) _ (sym e ∙ h) in
     (eqb-true _ _ (and-left (isBlock row) _ (sym e ∙ h)), (eqb-true _ _ (and-left (isBlock message) _ rest), eqb-true _ _ (and-right (isBlock message) _ rest)))
-
-pub copied : (from to after : List ℕ) → length from ≡ blockSize → length to ≡ blockSize → after ≡ take (length from) from ++ drop (length from) to → after ≡ from
-copied from to after f t e =
-    e ∙ ap (λ (l : List ℕ). l ++ drop (length from) to) (take-all (length from) from (omega arith)) ∙
-    ap (λ (l : List ℕ). from ++ l) (drop-of-length-le to {i = length from} (omega (arith, t, f))) ∙ append-nil from

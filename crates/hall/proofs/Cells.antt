@@ -4,8 +4,8 @@ use native.Mathlib.Omega.{arith}
 use native.Mathlib.Decide.{decLt}
 use mathlib.Core.Path.{_≡_, sym, ap, subst, _∙_}
 use mathlib.Core.Logic.{_≢_, ⊎-elim}
-use mathlib.Core.List.{List, _++_}
-use lib.ListN.{length, getD, take, drop, length-drop}
+use mathlib.Core.List.{List, _++_, append-nil}
+use lib.ListN.{length, getD, take, drop, length-drop, drop-of-length-le}
 use lib.Seq.{length-take-le, take-all, take-append-le, drop-append-le, take-at, drop-at, getD-take, getD-drop, ext-getD}
 use Rattle.below.proofs.Tests.{below-suc}
 use Rattle.words.specs.Bytes.{splice}
@@ -78,3 +78,9 @@ run-block (suc n) f h k l = ⊎-elim here (λ m. there m (run-block n f h k m)) 
     there m e =
         ap (λ (l : List ℕ). take blockSize l) (drop-append-le (blockSize * k) (run n f) (f n) (omega (arith, size))) ∙
         take-append-le blockSize (drop (blockSize * k) (run n f)) (f n) (simp length-drop (omega (arith, size))) ∙ e
+
+-- a block copied over a block
+pub copied : (from to after : List ℕ) → length from ≡ blockSize → length to ≡ blockSize → after ≡ take (length from) from ++ drop (length from) to → after ≡ from
+copied from to after f t e =
+    e ∙ ap (λ (l : List ℕ). l ++ drop (length from) to) (take-all (length from) from (omega arith)) ∙
+    ap (λ (l : List ℕ). from ++ l) (drop-of-length-le to {i = length from} (omega (arith, t, f))) ∙ append-nil from

@@ -162,7 +162,7 @@ fn fresh_coordinator(block: &mut [u8], instance: Instance, setup: Setup, agent: 
 }
 
 // The block at a place of a fresh hall; unused blocks are zero.
-pub fn fresh_block(block: &mut [u8], instance: Instance, setup: Setup, place: usize)
+pub(crate) fn fresh_block(block: &mut [u8], instance: Instance, setup: Setup, place: usize)
     requires { ⌜ length (now block) ≡ blockSize ⌝ }
     ensures { λ _. ⌜ now (block .exit) ≡ freshBlock (instance .0) setup place ⌝ }
 {

@@ -3,14 +3,15 @@ use Prim.Native.Nat.{ℕ, _+_, _*_, _-_, _<_}
 use native.Mathlib.Omega.{arith}
 use native.Mathlib.Nat.{mul-comm}
 use borrow.Rule.Slice.PartMut.{midOf, putMid, post-is}
-use lib.ListN.{length, take, drop, length-drop, drop-of-length-le}
-use lib.Seq.{length-take-le, take-all}
+use lib.ListN.{length, take, drop, length-drop}
+use lib.Seq.{length-take-le}
 use mathlib.Core.Path.{_≡_, ap, _∙_}
-use mathlib.Core.List.{List, _++_, append-nil}
+use mathlib.Core.List.{List, _++_}
 use Rattle.words.specs.Bytes.{splice}
 use Rattle.blocks.specs.Frame.{blockSize}
 use Rattle.hall.specs.Halls.{hallSize, blocksOfHall, blockAt}
 use Rattle.hall.specs.Steps.{putBlock}
+use Rattle.hall.proofs.Cells.{copied}
 
 -- as wide as a block
 width : (at : ℕ) → at + blockSize - at ≡ blockSize
@@ -39,12 +40,7 @@ module _ (hall block new : List ℕ) (place : ℕ) (long : length hall ≡ hallS
       ends : place * blockSize + blockSize ≡ blockSize * place + length block
       ends = omega (arith, size)
 
-  copied : (part : List ℕ) → length part ≡ blockSize → new ≡ take (length block) block ++ drop (length block) part → new ≡ block
-  copied part l e =
-      e ∙ ap (λ (a : List ℕ). a ++ drop (length block) part) (take-all (length block) block (omega arith)) ∙
-      ap (λ (a : List ℕ). block ++ a) (drop-of-length-le part {i = length block} (omega (arith, l, size))) ∙ append-nil block
-
   -- copied
   pub put-copied : new ≡ take (length block) block ++ drop (length block) (midOf (place * blockSize) (place * blockSize + blockSize - place * blockSize) hall) →
       putMid (place * blockSize) (place * blockSize + blockSize - place * blockSize) hall new ≡ putBlock place block hall
-  put-copied e = put-part (copied _ (part-size hall place long within) e)
+  put-copied e = put-part (copied block _ new size (part-size hall place long within) e)

@@ -1,2 +1,3 @@
 pub mod StepNumbers
 pub mod SameAct
+pub mod Unique

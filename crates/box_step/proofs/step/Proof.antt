@@ -1,10 +1,11 @@
+use Rattle.hall.proofs.Cells.{copied}
 use Rattle.hall.proofs.StepFacts.{code-range}
 use borrow.Author.Tests.{not-true, not-false}
 use native.Mathlib.Omega.{arith}
 use lib.ListN.{length}
 use denote.Ref.{now}
 use mathlib.Core.Path.{sym, ap, _∙_}
-use Rattle.box_step.proofs.Stepped.{wrong-length, no-such-step, act-refused, stepped, whole, lengths, copied}
+use Rattle.box_step.proofs.Stepped.{wrong-length, no-such-step, act-refused, stepped, whole, lengths}
 use Rattle.box_step.proofs.step.Statement.{statement}
 use Rattle.box_step.proofs.step.Tie as tie
 use borrow.Author.Needs.{needs}
