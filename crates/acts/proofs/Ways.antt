@@ -6,7 +6,7 @@ use mathlib.Core.Path.{_≡_, refl, sym, ap, _∙_}
 use mathlib.Core.Bool.{Bool, true, false, cond, _&&_, _||_, false≢true}
 use mathlib.Core.List.{List, []}
 use borrow.Author.Tests.{eq-eqb, ne-eqb}
-use Rattle.below.specs.Refusals.{unless, granted, wrongMessage}
+use Rattle.below.specs.Refusals.{unless, granted, wrongMessage, badBlock, otherHall}
 use Rattle.below.proofs.Tests.{and-left, and-right}
 use Rattle.records.specs.declared.stamp.Stamp.{Stamp}
 use Rattle.blocks.specs.Frame.{blockSize}
@@ -15,7 +15,7 @@ use Rattle.blocks.specs.Answers.{answer, Reads}
 use Rattle.blocks.proofs.Judged.{Proper, encode-decode}
 use Rattle.kinds.specs.Known.{known, Told}
 use Rattle.acts.specs.Acts.{Act, refused, isA, bodyOf, onRow, onBoth}
-use Rattle.acts.specs.Named.{badBlock, otherHall, stampOf, sameHall, ownRow, rowTests, bothTests, bothRefusal, rowRefusal, rowFound, bothFound}
+use Rattle.acts.specs.Named.{stampOf, sameHall, ownRow, rowTests, bothTests, bothRefusal, rowRefusal, rowFound, bothFound}
 use Rattle.acts.specs.Answers.{Acts, Keeps}
 use Rattle.acts.proofs.Familiar.{Familiar}
 

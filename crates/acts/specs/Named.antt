@@ -3,19 +3,13 @@ use Prim.Native.Nat.{ℕ}
 use lib.Dec.{leb, eqb}
 use mathlib.Core.Bool.{Bool, not, _&&_, _||_}
 use mathlib.Core.List.{List}
-use Rattle.below.specs.Refusals.{unless, granted, wrongMessage}
+use Rattle.below.specs.Refusals.{unless, granted, wrongMessage, badBlock, otherHall}
 use Rattle.rounds.specs.Setups.{sameSetup}
 use Rattle.records.specs.declared.stamp.Stamp.{Stamp}
 use Rattle.blocks.specs.Frame.{stampAs}
 use Rattle.kinds.specs.Known.{known}
 use Rattle.acts.specs.declared.step.Step.{Step}
 use Rattle.acts.specs.Acts.{Act, actOf}
-
-abbrev pub badBlock : ℕ
-badBlock = 2
-
-abbrev pub otherHall : ℕ
-otherHall = 3
 
 -- a block that passes check and rules, of whatever kind
 abbrev pub isGood : List ℕ → Bool

@@ -5,6 +5,8 @@ use Rattle.below.proofs.both.Kinds as both-kinds
 use Rattle.below.proofs.both.Reads as both
 use Rattle.below.proofs.either.Kinds as either-kinds
 use Rattle.below.proofs.either.Reads as either
+use Rattle.below.proofs.one_if.Kinds as one-if-kinds
+use Rattle.below.proofs.one_if.Reads as one-if
 use Rattle.below.proofs.refusals.unless.Kinds as unless-kinds
 use Rattle.below.proofs.refusals.unless.Reads as unless
 
@@ -16,3 +18,6 @@ either-unique κs a x y s t p q = p ∙ sym q
 
 pub unless-unique : Determines 0 unless-kinds.ps unless-kinds.r unless.Post
 unless-unique κs a x y s t p q = p ∙ sym q
+
+pub one-if-unique : Determines 0 one-if-kinds.ps one-if-kinds.r one-if.Post
+one-if-unique κs a x y s t p q = p .0 ∙ sym (q .0)

@@ -5,7 +5,7 @@ use native.Mathlib.Nat.{le-antisymm}
 use native.Mathlib.Omega.{arith}
 use mathlib.Core.Path.{_≡_, refl, ap, _∙_}
 use mathlib.Core.List.{List, [], _∷_, _++_, append-nil, append-assoc}
-use lib.ListN.{length, getD, drop, set, length-append, length-drop, drop-of-length-le}
+use lib.ListN.{length, getD, drop, set, drop-of-length-le}
 use lib.Seq.{set-at, drop-cons}
 use Rattle.below.specs.Below.{row}
 
@@ -62,7 +62,3 @@ module _ {A : Type 0} where
   unfolding filled
   filled-ends f n k l e a b =
       ap (λ (t : List A). row k f ++ t) (drop-of-length-le l {i = k} (omega (arith, e))) ∙ append-nil (row k f) ∙ ap (λ (m : ℕ). row m f) (le-antisymm a b)
-
-  pub length-filled : (f : ℕ → A) (k : ℕ) (l : List A) → k ≤ length l → length (filled f k l) ≡ length l
-  unfolding filled
-  length-filled f k l h = simp (length-append, length-row, length-drop) (omega arith)

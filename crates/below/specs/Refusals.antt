@@ -6,8 +6,21 @@ use mathlib.Core.Bool.{Bool, cond}
 abbrev pub unless : Bool → ℕ → ℕ → ℕ
 unless holds number later = cond holds later number
 
+-- document 01's numbers
 abbrev pub granted : ℕ
 granted = 0
+
+abbrev pub wrongLength : ℕ
+wrongLength = 1
+
+abbrev pub badBlock : ℕ
+badBlock = 2
+
+abbrev pub otherHall : ℕ
+otherHall = 3
+
+abbrev pub noSuchStep : ℕ
+noSuchStep = 4
 
 abbrev pub wrongMessage : ℕ
 wrongMessage = 5
@@ -23,3 +36,9 @@ noMajority = 8
 
 abbrev pub linesClash : ℕ
 linesClash = 9
+
+abbrev pub postFull : ℕ
+postFull = 10
+
+abbrev pub outOfRange : ℕ
+outOfRange = 11

@@ -34,33 +34,42 @@ module _ {A : Type 0} (k : Kind A) (P : A → Type 0) (proper : Proper k P) (byt
       refusing (not-true-false (good k bytes) (λ g. h (good-length k P proper bytes g))) (v .1)
       (v .0 ∙ ap (λ (b : Bool). cond b 2 1) (sym (ne-eqb (length bytes) blockSize h)))
 
-  -- a block of another kind, or whose zeros or check words are wrong
-  pub read-unframed : Small bytes → length bytes ≡ blockSize → {f : Bool} {n : ℕ} {s : Stamp} {b : A} → f ≡ framed (k .number) (bodyAt + k .body .size) bytes → not f ≡ true →
-      (n ≡ 2) × ((s, b) ≡ decode k []) → Reads k bytes n s b
-  read-unframed small long {f} p h v = refusing unframed (v .1) (v .0 ∙ ap (λ (b : Bool). cond b 2 1) (sym (eq-eqb (length bytes) blockSize long)))
+  -- a block of another kind
+  pub read-other : Small bytes → length bytes ≡ blockSize → {n : ℕ} {s : Stamp} {b : A} → (byte bytes 2 ≡ k .number → ⊥) → (n ≡ 2) × ((s, b) ≡ decode k []) → Reads k bytes n s b
+  unfolding framed
+  read-other small long h v = refusing other (v .1) (v .0 ∙ ap (λ (b : Bool). cond b 2 1) (sym (eq-eqb (length bytes) blockSize long)))
     where
-      unframed : good k bytes ≡ false
-      unframed =
-          good-tested k P proper bytes small long ∙
-          ap (λ (t : Bool). (k .body .exact bytes bodyAt && t) && kept k (decode k bytes .0) (decode k bytes .1)) (sym p ∙ not-true f h) ∙
+      unframed : framed (k .number) (bodyAt + k .body .size) bytes ≡ false
+      unframed = rw (ne-eqb (byte bytes 2) (k .number) h) refl
+
+      other : good k bytes ≡ false
+      other =
+          good-tested k P proper bytes small long ∙ ap (λ (t : Bool). (k .body .exact bytes bodyAt && t) && kept k (decode k bytes .0) (decode k bytes .1)) unframed ∙
           ap (λ (t : Bool). t && kept k (decode k bytes .0) (decode k bytes .1)) (and-false-right (k .body .exact bytes bodyAt) refl)
 
   module _ (small : Small bytes) (long : length bytes ≡ blockSize) {stamp : Stamp} {body : A} (stamped : stamp ≡ stampAs 0 .get bytes 0) {e : Bool} (got : Got (k .body) bytes bodyAt body e) where
-    -- the tests of the reader's code, in its order
-    pub judged : {f a b n r : Bool} → f ≡ framed (k .number) (bodyAt + k .body .size) bytes → not f ≡ false → a ≡ stampRules stamp (k .agents (stamp .setup)) →
-        b ≡ k .rules (stamp .setup) (stamp .agent) body → n ≡ a && b → r ≡ e && n → r ≡ good k bytes
-    judged {f} p h s t u v =
-        v ∙ join (and-yes (got .tested) (sym p ∙ not-false f h)) (u ∙ join s t ∙ rules-of stamped (got .is)) ∙ sym (good-tested k P proper bytes small long)
+    -- the tests of the reader's code, in its order: the frame last, whose sums take longest
+    pub judged : {a b n m f r : Bool} → a ≡ stampRules stamp (k .agents (stamp .setup)) → b ≡ k .rules (stamp .setup) (stamp .agent) body → n ≡ a && b → m ≡ e && n →
+        f ≡ framed (k .number) (bodyAt + k .body .size) bytes → r ≡ m && f → r ≡ good k bytes
+    judged {a} {b} {n} {m} {f} s t u v p w =
+        w ∙ join (v ∙ join (got .tested) (u ∙ join s t ∙ rules-of stamped (got .is))) p ∙ turn (k .body .exact bytes bodyAt) _ _ ∙
+        sym (good-tested k P proper bytes small long)
       where
         join : {x y x' y' : Bool} → x ≡ x' → y ≡ y' → x && y ≡ x' && y'
         join w z = rw (w, z)
 
-        and-yes : {x y z : Bool} → x ≡ y → z ≡ true → x ≡ y && z
-        and-yes {y = y} w q = w ∙ go y q
+        turn : (x y z : Bool) → (x && y) && z ≡ (x && z) && y
+        turn true true z = go z
           where
-            go : (y : Bool) {z : Bool} → z ≡ true → y ≡ y && z
-            go true g = sym g
-            go false g = refl
+            go : (z : Bool) → z ≡ z && true
+            go true = refl
+            go false = refl
+        turn true false z = go z
+          where
+            go : (z : Bool) → false ≡ z && false
+            go true = refl
+            go false = refl
+        turn false y z = refl
 
         rules-of : {w : Stamp} {z : A} → stamp ≡ w → body ≡ z → kept k stamp body ≡ kept k w z
         rules-of w z = λ i. kept k (w i) (z i)

@@ -10,7 +10,7 @@ use mathlib.Core.List.{List, [], _∷_, _++_}
 use borrow.Author.Tests.{eqb-true, eq-eqb, ne-eqb}
 use Rattle.records.specs.declared.stamp.Stamp.{Stamp}
 use Rattle.words.specs.Bytes.{byte, number4, bytes4, zeros, zeroAt, splice, Spliced}
-use Rattle.words.specs.Sums.{words, wordOf, firstSum, secondSum, firstOf, secondOf}
+use Rattle.words.specs.Sums.{words, wordOf, firstOf, secondOf}
 use Rattle.words.proofs.Zeroes.{zero-at, zero-true, zero-parts}
 use Rattle.words.proofs.Splices.{next}
 use Rattle.words.proofs.Summed.{first-same, second-same}
@@ -73,17 +73,6 @@ content-lawful k P n l =
     (both-lawful (k .body) (zeroRun (wordsEnd - (bodyAt + k .body .size))) P Any l (zero-run-lawful (wordsEnd - (bodyAt + k .body .size)))))
     (λ v h. (h .0, (h .1, tt))) (λ w h. (h .0, h .1 .0)) (λ v h. refl) (λ w h. refl)
 
--- the check words are numbers of four bytes
-pub first-small : (n : ℕ) (word : ℕ → ℕ) → firstSum n word < 4294967296
-unfolding firstSum
-first-small zero word = omega arith
-first-small (suc n) word = omega arith
-
-pub second-small : (n : ℕ) (word : ℕ → ℕ) → secondSum n word < 4294967296
-unfolding secondSum
-second-small zero word = omega arith
-second-small (suc n) word = omega arith
-
 -- bytes that agree before the check words have the same sums
 module _ (a b : List ℕ) (h : (j : ℕ) → j < wordsEnd → byte a j ≡ byte b j) where
   words-agree : (k : ℕ) → k < words → wordOf a k ≡ wordOf b k
@@ -94,10 +83,10 @@ module _ (a b : List ℕ) (h : (j : ℕ) → j < wordsEnd → byte a j ≡ byte 
       sum e f g i = rw (e, f, g, i)
 
   pub first-agrees : firstOf a ≡ firstOf b
-  first-agrees = first-same words (wordOf a) (wordOf b) words-agree
+  first-agrees = first-same 1 words (wordOf a) (wordOf b) words-agree
 
   pub second-agrees : secondOf a ≡ secondOf b
-  second-agrees = second-same words (wordOf a) (wordOf b) words-agree
+  second-agrees = second-same 1 words (wordOf a) (wordOf b) words-agree
 
 -- the rest is looked at by odd bytes first, then by words
 rest-zero : (bytes : List ℕ) (end rest : ℕ) → zeroAt (rest % 4) bytes end && zeroAt (4 * (rest / 4)) bytes (end + rest % 4) ≡ zeroAt rest bytes end

@@ -16,7 +16,8 @@ use Rattle.fields.proofs.Cuts.{cut, length-cut, cut-parts, cut-all, cut-byte, c
 use Rattle.fields.proofs.Lawful.{Lawful, four-lawful, small-join}
 use Rattle.blocks.specs.Frame.{blockSize, wordsEnd, bodyAt, framed, checks}
 use Rattle.blocks.specs.Kinds.{Kind, content, encode, decode, kept, same, good}
-use Rattle.blocks.proofs.Framing.{StampFits, content-lawful, first-small, second-small, first-agrees, second-agrees}
+use Rattle.blocks.proofs.Framing.{StampFits, content-lawful, first-agrees, second-agrees}
+use Rattle.words.proofs.Summed.{first-small, second-small}
 
 -- lists of bytes that pass the test are equal
 pub same-is : (a b : List ℕ) → same a b ≡ true → a ≡ b
@@ -60,7 +61,7 @@ module _ {A : Type 0} (k : Kind A) (P : A → Type 0) (proper : Proper k P) wher
   unfolding encode
   encode-small stamp body s p =
       small-join (content k .put (stamp, body)) (checks (content k .put (stamp, body))) (whole .small (stamp, body) (s, p))
-      (small-join (bytes4 (firstOf (content k .put (stamp, body)))) (bytes4 (secondOf (content k .put (stamp, body)))) (four-lawful .small _ (first-small words (wordOf (content k .put (stamp, body))))) (four-lawful .small _ (second-small words (wordOf (content k .put (stamp, body))))))
+      (small-join (bytes4 (firstOf (content k .put (stamp, body)))) (bytes4 (secondOf (content k .put (stamp, body)))) (four-lawful .small _ (first-small 1 (wordOf (content k .put (stamp, body))) (omega arith) words)) (four-lawful .small _ (second-small 1 (wordOf (content k .put (stamp, body))) words)))
 
   -- what is written reads back
   pub decode-encode : (stamp : Stamp) (body : A) → StampFits stamp → P body → decode k (encode k stamp body) ≡ (stamp, body)
@@ -143,8 +144,8 @@ module _ {A : Type 0} (k : Kind A) (P : A → Type 0) (proper : Proper k P) wher
     same-framed h =
         and-true (and-left (k .body .exact bytes bodyAt) rest-right inside)
         (and-true (and-true (and-left kind-right true (and-left (kind-right && true) _ exact)) (and-right (k .body .exact bytes bodyAt) rest-right inside))
-        (and-true (eq-eqb _ _ (four-lawful .back (firstOf words-is) (first-small words (wordOf words-is)) bytes wordsEnd first-cut ∙ sym (first-of is)))
-        (eq-eqb _ _ (four-lawful .back (secondOf words-is) (second-small words (wordOf words-is)) bytes (wordsEnd + 4) second-cut ∙ sym (second-of is)))))
+        (and-true (eq-eqb _ _ (four-lawful .back (firstOf words-is) (first-small 1 (wordOf words-is) (omega arith) words) bytes wordsEnd first-cut ∙ sym (first-of is)))
+        (eq-eqb _ _ (four-lawful .back (secondOf words-is) (second-small 1 (wordOf words-is) words) bytes (wordsEnd + 4) second-cut ∙ sym (second-of is)))))
       where
         words-is : List ℕ
         words-is = content k .put (decode k bytes)

@@ -6,7 +6,7 @@ use mathlib.Core.Path.{_≡_}
 use mathlib.Core.Bool.{Bool, cond, _&&_}
 use mathlib.Core.List.{List, _++_}
 use Rattle.below.specs.Below.{all, row}
-use Rattle.below.specs.Refusals.{unless, granted, wrongMessage}
+use Rattle.below.specs.Refusals.{unless, granted, wrongMessage, wrongLength, badBlock, otherHall}
 use Rattle.pages.specs.declared.page.Page.{Page}
 use Rattle.rounds.specs.Setups.{sameSetup}
 use Rattle.records.specs.declared.stamp.Stamp.{Stamp}
@@ -16,15 +16,6 @@ use Rattle.blocks.specs.Kinds.{decode}
 use Rattle.row_blocks.specs.Rows.{reader}
 use Rattle.kinds.specs.Known.{known}
 use Rattle.book.specs.Lists.{listOf}
-
-abbrev pub wrongLength : ℕ
-wrongLength = 1
-
-abbrev pub badBlock : ℕ
-badBlock = 2
-
-abbrev pub otherHall : ℕ
-otherHall = 3
 
 abbrev pub tooShort : ℕ
 tooShort = 10

@@ -8,7 +8,7 @@ use borrow.Author.Tests.{eq-eqb, ne-eqb, eqb-true, eqb-false}
 use mathlib.Core.Path.{_≡_, refl, sym, ap, subst, _∙_}
 use mathlib.Core.Bool.{Bool, true, false, cond, _&&_, false≢true}
 use mathlib.Core.List.{List}
-use Rattle.below.specs.Refusals.{unless, granted}
+use Rattle.below.specs.Refusals.{unless, granted, badBlock, outOfRange}
 use Rattle.below.proofs.Tests.{and-left, and-right}
 use Rattle.rounds.specs.Setups.{setupInRange}
 use Rattle.records.specs.declared.stamp.Stamp.{Stamp}
@@ -23,9 +23,8 @@ use Rattle.kinds.specs.Known.{goodAs, known}
 use Rattle.acts.specs.declared.step.Step.{Step}
 use Rattle.acts.specs.declared.numbers.Numbers.{Numbers}
 use Rattle.acts.specs.Acts.{Act}
-use Rattle.acts.specs.Named.{badBlock, stampOf, ownAct, namedRefusal}
+use Rattle.acts.specs.Named.{stampOf, ownAct, namedRefusal}
 use Rattle.acts.specs.Answers.{Acts, stepOf}
-use Rattle.hall.specs.Halls.{outOfRange}
 use Rattle.hall.specs.Steps.{isCode, numbersInRange}
 use Rattle.step_numbers.specs.Narrowed.{narrowed}
 use Rattle.step_numbers.proofs.SameAct.{same-act, same-named}

@@ -5,14 +5,13 @@ use lib.ListN.{length}
 use mathlib.Core.Path.{_≡_}
 use mathlib.Core.Bool.{Bool, cond, _&&_}
 use mathlib.Core.List.{List}
-use Rattle.below.specs.Refusals.{unless, granted}
+use Rattle.below.specs.Refusals.{unless, granted, wrongLength, noSuchStep, outOfRange}
 use Rattle.rounds.specs.declared.setup.Setup.{Setup}
 use Rattle.words.specs.Bytes.{zeros}
 use Rattle.blocks.specs.Frame.{blockSize}
 use Rattle.acts.specs.declared.step.Step.{Step}
 use Rattle.acts.specs.Named.{stampOf, ownAct, namedRefusal}
-use Rattle.hall.specs.Halls.{wrongLength, outOfRange}
-use Rattle.hall.specs.Steps.{isCode, noSuchStep, numbersInRange}
+use Rattle.hall.specs.Steps.{isCode, numbersInRange}
 
 abbrev pub isBlock : List ℕ → Bool
 isBlock bytes = eqb (length bytes) blockSize

@@ -15,7 +15,7 @@ use Rattle.cases.specs.Setting.{lines, opensWith, heldOf, learns}
 -- the check words of a block in which one word is x and the others are zero
 abbrev checks : ℕ → ℕ → ℕ → ℕ → Bool
 checks place x first second =
-    eqb (firstSum words (λ k. cond (eqb k place) x 0)) first && eqb (secondSum words (λ k. cond (eqb k place) x 0)) second
+    eqb (firstSum 1 words (λ k. cond (eqb k place) x 0)) first && eqb (secondSum 1 words (λ k. cond (eqb k place) x 0)) second
 
 -- all words zero 1 and 126; word 0 = 5 gives 6 and 756; word 125 = 5 gives 6 and 131; word 0 = 4,294,967,295 gives 0 and 0
 unfoldable pub checkCases : List Bool

@@ -6,7 +6,7 @@ use mathlib.Core.Path.{_≡_}
 use mathlib.Core.Bool.{cond, _&&_}
 use mathlib.Core.List.{List}
 use Rattle.below.specs.Below.{row}
-use Rattle.below.specs.Refusals.{unless, granted}
+use Rattle.below.specs.Refusals.{unless, granted, wrongLength, outOfRange}
 use Rattle.pages.specs.declared.line.Mark.the-variants.{Absent}
 use Rattle.pages.specs.Pages.{line, empty, none, some}
 use Rattle.rounds.specs.declared.setup.Setup.{Setup}
@@ -22,12 +22,6 @@ use Rattle.fields.specs.Codecs.{run}
 use Rattle.blocks.specs.Frame.{blockSize}
 use Rattle.blocks.specs.Kinds.{Kind, encode}
 use Rattle.row_blocks.specs.Rows.{head, coordinator, box, rack, reader}
-
-abbrev pub wrongLength : ℕ
-wrongLength = 1
-
-abbrev pub outOfRange : ℕ
-outOfRange = 11
 
 -- how many blocks, and where each sort begins
 abbrev pub blocksOfHall : ℕ

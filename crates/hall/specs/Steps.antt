@@ -5,7 +5,7 @@ use lib.ListN.{length}
 use mathlib.Core.Path.{_≡_}
 use mathlib.Core.Bool.{Bool, true, cond, not, _&&_, _||_}
 use mathlib.Core.List.{List}
-use Rattle.below.specs.Refusals.{unless, granted}
+use Rattle.below.specs.Refusals.{unless, granted, wrongLength, badBlock, noSuchStep, postFull, outOfRange}
 use Rattle.pages.specs.Lines.{readingInRange}
 use Rattle.rounds.specs.declared.setup.Setup.{Setup}
 use Rattle.rounds.specs.Setups.{oneTo, someRacks}
@@ -17,8 +17,8 @@ use Rattle.blocks.specs.Kinds.{encode, decode, good}
 use Rattle.row_blocks.specs.Rows.{head}
 use Rattle.acts.specs.declared.step.Step.{Step}
 use Rattle.acts.specs.Acts.{Act}
-use Rattle.acts.specs.Named.{badBlock, names, ownAct, namedRefusal}
-use Rattle.hall.specs.Halls.{wrongLength, outOfRange, hallSize, coordinatorsAt, boxesAt, racksAt, readersAt, messagesAt, blockAt}
+use Rattle.acts.specs.Named.{names, ownAct, namedRefusal}
+use Rattle.hall.specs.Halls.{hallSize, coordinatorsAt, boxesAt, racksAt, readersAt, messagesAt, blockAt}
 
 -- which sort of agent does a step: where its rows begin, and how many there are
 abbrev pub byRack : ℕ → Bool
@@ -38,9 +38,6 @@ agentsFor s code = cond (byRack code) (s .racks) (cond (byCoordinator code) (s .
 
 abbrev pub isCode : ℕ → Bool
 isCode code = oneTo 13 code
-
-abbrev pub noSuchStep : ℕ
-noSuchStep = 4
 
 -- 4: code not 1 to 13, no such agent, message number not below the count
 unfoldable pub stepExists : Setup → ℕ → Step → Bool
@@ -77,9 +74,6 @@ abbrev pub hallFor : List ℕ → Step → Stamp
 hallFor hall x = record { instance = headOf hall .instance; setup = headOf hall .setup; agent = x .agent }
 
 -- 10: post full (96)
-abbrev pub postFull : ℕ
-postFull = 10
-
 abbrev pub mostMessages : ℕ
 mostMessages = 96
 

@@ -8,7 +8,7 @@ use mathlib.Core.Path.{_≡_, refl, sym, ap, subst, _∙_}
 use mathlib.Core.Bool.{Bool, true, false, cond, not, false≢true}
 use mathlib.Core.Logic.{⊎-elim}
 use mathlib.Core.List.{List}
-use Rattle.below.specs.Refusals.{unless, granted}
+use Rattle.below.specs.Refusals.{unless, granted, postFull}
 use Rattle.below.proofs.Tests.{and-left, and-right, or-cases}
 use borrow.Rule.Slice.PartMut.{putMid}
 use Rattle.rounds.specs.Setups.{setupInRange}
@@ -26,7 +26,7 @@ use Rattle.acts.specs.Acts.{Act}
 use Rattle.acts.specs.Named.{stampOf, names, ownAct, namedRefusal}
 use Rattle.acts.specs.Answers.{Acts, stepOf}
 use Rattle.hall.specs.Halls.{hallSize, blocksOfHall, messagesAt, blockAt}
-use Rattle.hall.specs.Steps.{rowsAt, stepExists, numbersInRange, headOf, countOf, rowPlace, rowOf, messageOf, hallAct, hallFor, postFull, mostMessages, fits, hallRefusal, putBlock, posted, granting, hallAfter, Steps}
+use Rattle.hall.specs.Steps.{rowsAt, stepExists, numbersInRange, headOf, countOf, rowPlace, rowOf, messageOf, hallAct, hallFor, mostMessages, fits, hallRefusal, putBlock, posted, granting, hallAfter, Steps}
 use Rattle.step_numbers.specs.Narrowed.{narrowed}
 use Rattle.hall.proofs.Cells.{put-length}
 use Rattle.hall_step.specs.Reached.{Reached}

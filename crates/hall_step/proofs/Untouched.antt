@@ -8,7 +8,7 @@ use mathlib.Core.Path.{_≡_, refl, sym, ap, _∙_}
 use mathlib.Core.Logic.{_≢_}
 use mathlib.Core.Bool.{Bool, true, false, cond, not, _||_}
 use mathlib.Core.List.{List}
-use Rattle.below.specs.Refusals.{unless, granted}
+use Rattle.below.specs.Refusals.{unless, granted, wrongLength, badBlock, otherHall, noSuchStep, postFull, outOfRange}
 use Rattle.below.proofs.Granted.{unless-held, unless-later}
 use Rattle.blocks.specs.Frame.{blockSize}
 use Rattle.blocks.specs.Kinds.{encode, good}
@@ -16,9 +16,9 @@ use Rattle.blocks.proofs.Judged.{encode-length}
 use Rattle.row_blocks.specs.Rows.{head}
 use Rattle.row_blocks.proofs.Propers.{HeadFits, head-proper}
 use Rattle.acts.specs.declared.step.Step.{Step}
-use Rattle.acts.specs.Named.{badBlock, otherHall, isGood, stampOf, sameHall, names, ownAct, ownRow, namedRefusal}
-use Rattle.hall.specs.Halls.{wrongLength, outOfRange, hallSize, blocksOfHall, messagesAt, blockAt}
-use Rattle.hall.specs.Steps.{noSuchStep, stepExists, numbersInRange, headOf, countOf, rowPlace, rowOf, messageOf, hallAct, hallFor, postFull, mostMessages, fits, hallRefusal, putBlock, posted, granting, hallAfter}
+use Rattle.acts.specs.Named.{isGood, stampOf, sameHall, names, ownAct, ownRow, namedRefusal}
+use Rattle.hall.specs.Halls.{hallSize, blocksOfHall, messagesAt, blockAt}
+use Rattle.hall.specs.Steps.{stepExists, numbersInRange, headOf, countOf, rowPlace, rowOf, messageOf, hallAct, hallFor, mostMessages, fits, hallRefusal, putBlock, posted, granting, hallAfter}
 use Rattle.hall.proofs.StepFacts.{own-number}
 use Rattle.hall.proofs.Cells.{length-block, put-length, put-other}
 use Rattle.hall_step.specs.Reached.{Reached}

@@ -55,7 +55,7 @@ pub fn read_one_a(block: &[u8]) -> OneARead
     if block.len() != BLOCK {
         return refused(1);
     }
-    if !framed(block, KIND, END) {
+    if block[2] != KIND {
         return refused(2);
     }
     let stamp = read_stamp(block);
@@ -66,7 +66,7 @@ pub fn read_one_a(block: &[u8]) -> OneARead
         stamp.rules(setup.coordinators),
         body.rules(setup, stamp.agent),
     );
-    if rules {
+    if both(rules, framed(block, KIND, END)) {
         OneARead {
             refusal: 0,
             stamp,

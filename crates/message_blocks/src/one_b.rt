@@ -68,7 +68,7 @@ pub fn read_one_b(block: &[u8]) -> OneBRead
     if block.len() != BLOCK {
         return refused(1);
     }
-    if !framed(block, KIND, END) {
+    if block[2] != KIND {
         return refused(2);
     }
     let stamp = read_stamp(block);
@@ -79,7 +79,8 @@ pub fn read_one_b(block: &[u8]) -> OneBRead
     let vote = vote_read.value;
     let body = OneB { round, vrnd, vote };
     let rules = both(stamp.rules(setup.boxes), body.rules(setup, stamp.agent));
-    if both(vote_read.exact, rules) {
+    let right = both(vote_read.exact, rules);
+    if both(right, framed(block, KIND, END)) {
         OneBRead {
             refusal: 0,
             stamp,

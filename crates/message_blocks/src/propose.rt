@@ -50,7 +50,7 @@ pub fn read_propose(block: &[u8]) -> ProposeRead
     if block.len() != BLOCK {
         return refused(1);
     }
-    if !framed(block, KIND, END) {
+    if block[2] != KIND {
         return refused(2);
     }
     let stamp = read_stamp(block);
@@ -58,7 +58,7 @@ pub fn read_propose(block: &[u8]) -> ProposeRead
     let reading = read_reading(block, READING);
     let body = Propose { reading };
     let rules = both(stamp.rules(setup.racks), body.rules(setup, stamp.agent));
-    if rules {
+    if both(rules, framed(block, KIND, END)) {
         ProposeRead {
             refusal: 0,
             stamp,

@@ -62,7 +62,7 @@ pub fn read_two_a(block: &[u8]) -> TwoARead
     if block.len() != BLOCK {
         return refused(1);
     }
-    if !framed(block, KIND, END) {
+    if block[2] != KIND {
         return refused(2);
     }
     let stamp = read_stamp(block);
@@ -72,7 +72,8 @@ pub fn read_two_a(block: &[u8]) -> TwoARead
     let line = line_read.value;
     let body = TwoA { round, line };
     let rules = both(stamp.rules(setup.racks), body.rules(setup, stamp.agent));
-    if both(line_read.exact, rules) {
+    let right = both(line_read.exact, rules);
+    if both(right, framed(block, KIND, END)) {
         TwoARead {
             refusal: 0,
             stamp,

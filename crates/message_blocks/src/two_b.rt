@@ -61,7 +61,7 @@ pub fn read_two_b(block: &[u8]) -> TwoBRead
     if block.len() != BLOCK {
         return refused(1);
     }
-    if !framed(block, KIND, END) {
+    if block[2] != KIND {
         return refused(2);
     }
     let stamp = read_stamp(block);
@@ -71,7 +71,8 @@ pub fn read_two_b(block: &[u8]) -> TwoBRead
     let page = page_read.value;
     let body = TwoB { round, page };
     let rules = both(stamp.rules(setup.boxes), body.rules(setup, stamp.agent));
-    if both(page_read.exact, rules) {
+    let right = both(page_read.exact, rules);
+    if both(right, framed(block, KIND, END)) {
         TwoBRead {
             refusal: 0,
             stamp,

@@ -61,7 +61,7 @@ pub fn read_two_s(block: &[u8]) -> TwoSRead
     if block.len() != BLOCK {
         return refused(1);
     }
-    if !framed(block, KIND, END) {
+    if block[2] != KIND {
         return refused(2);
     }
     let stamp = read_stamp(block);
@@ -74,7 +74,8 @@ pub fn read_two_s(block: &[u8]) -> TwoSRead
         stamp.rules(setup.coordinators),
         body.rules(setup, stamp.agent),
     );
-    if both(page_read.exact, rules) {
+    let right = both(page_read.exact, rules);
+    if both(right, framed(block, KIND, END)) {
         TwoSRead {
             refusal: 0,
             stamp,

@@ -8,13 +8,13 @@ use mathlib.Core.Bool.{Bool, true, false, cond, _&&_}
 use mathlib.Core.Logic.{_⊎_, inl, inr, ⊎-elim}
 use mathlib.Core.List.{List}
 use borrow.Author.Tests.{eqb-true, leb-true}
-use Rattle.below.specs.Refusals.{unless, granted}
+use Rattle.below.specs.Refusals.{unless, granted, wrongLength, outOfRange}
 use Rattle.below.proofs.Tests.{and-left, and-right}
 use Rattle.below.proofs.Granted.{unless-held, unless-later, answer-granted}
 use Rattle.rounds.specs.declared.setup.Setup.{Setup}
 use Rattle.rounds.specs.Setups.{setupInRange}
 use Rattle.acts.specs.declared.step.Step.{Step}
-use Rattle.hall.specs.Halls.{wrongLength, outOfRange, hallSize, freshHall, setupRefusal, setupAfter}
+use Rattle.hall.specs.Halls.{hallSize, freshHall, setupRefusal, setupAfter}
 use Rattle.hall.specs.Steps.{granting, hallRefusal, hallAfter}
 use Rattle.promise.specs.Runs.{pageOf, LearntBy}
 use Rattle.promise.specs.Demand3.{Demand3}

@@ -7,7 +7,7 @@ use mathlib.Core.Bool.{Bool, true, false, cond, not, _&&_, _||_}
 use mathlib.Core.Logic.{⊎-elim}
 use mathlib.Core.List.{List}
 use borrow.Author.Tests.{eq-eqb}
-use Rattle.below.specs.Refusals.{unless, granted}
+use Rattle.below.specs.Refusals.{unless, granted, wrongLength, badBlock, otherHall, noSuchStep, postFull, outOfRange}
 use Rattle.below.proofs.Tests.{and-true, or-true-right, or-true-left, decided}
 use Rattle.below.proofs.Granted.{unless-held, unless-later}
 use Rattle.rounds.specs.declared.setup.Setup.{Setup}
@@ -18,9 +18,9 @@ use Rattle.row_blocks.proofs.Theorems.{coordinator-kept, box-kept, rack-kept, r
 use Rattle.kinds.specs.Known.{goodAs}
 use Rattle.acts.specs.declared.step.Step.{Step}
 use Rattle.acts.specs.Acts.{Act, actOf}
-use Rattle.acts.specs.Named.{badBlock, otherHall, isGood, stampOf, sameHall, names, ownAct, namedRefusal}
-use Rattle.hall.specs.Halls.{wrongLength, outOfRange, coordinatorsAt, boxesAt, racksAt, readersAt, blockAt}
-use Rattle.hall.specs.Steps.{byRack, byCoordinator, byBox, rowsAt, agentsFor, noSuchStep, stepExists, numbersInRange, headOf, countOf, rowPlace, rowOf, messageOf, hallAct, postFull, fits, hallRefusal}
+use Rattle.acts.specs.Named.{isGood, stampOf, sameHall, names, ownAct, namedRefusal}
+use Rattle.hall.specs.Halls.{coordinatorsAt, boxesAt, racksAt, readersAt, blockAt}
+use Rattle.hall.specs.Steps.{byRack, byCoordinator, byBox, rowsAt, agentsFor, stepExists, numbersInRange, headOf, countOf, rowPlace, rowOf, messageOf, hallAct, fits, hallRefusal}
 use Rattle.hall.proofs.StepFacts.{exists-agent, exists-message, own-number}
 use Rattle.safety.proofs.Moved.{Agent, coordinator, box, rack, reader}
 use Rattle.promise.proofs.GoodBlocks.{stampFor, OfHall, same-hall, of-hall}

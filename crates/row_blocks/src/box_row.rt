@@ -68,7 +68,7 @@ pub fn read_box(block: &[u8]) -> BoxRowRead
     if block.len() != BLOCK {
         return refused(1);
     }
-    if !framed(block, KIND, END) {
+    if block[2] != KIND {
         return refused(2);
     }
     let stamp = read_stamp(block);
@@ -79,7 +79,8 @@ pub fn read_box(block: &[u8]) -> BoxRowRead
     let vval = vval_read.value;
     let body = BoxRow { rnd, vrnd, vval };
     let rules = both(stamp.rules(setup.boxes), body.rules(setup, stamp.agent));
-    if both(vval_read.exact, rules) {
+    let right = both(vval_read.exact, rules);
+    if both(right, framed(block, KIND, END)) {
         BoxRowRead {
             refusal: 0,
             stamp,

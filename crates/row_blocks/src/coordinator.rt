@@ -69,7 +69,7 @@ pub fn read_coordinator(block: &[u8]) -> CoordinatorRowRead
     if block.len() != BLOCK {
         return refused(1);
     }
-    if !framed(block, KIND, END) {
+    if block[2] != KIND {
         return refused(2);
     }
     let stamp = read_stamp(block);
@@ -85,7 +85,8 @@ pub fn read_coordinator(block: &[u8]) -> CoordinatorRowRead
         stamp.rules(setup.coordinators),
         body.rules(setup, stamp.agent),
     );
-    if both(exact, rules) {
+    let right = both(exact, rules);
+    if both(right, framed(block, KIND, END)) {
         CoordinatorRowRead {
             refusal: 0,
             stamp,

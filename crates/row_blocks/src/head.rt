@@ -45,7 +45,7 @@ pub fn read_head(block: &[u8]) -> HeadRead
     if block.len() != BLOCK {
         return refused(1);
     }
-    if !framed(block, KIND, END) {
+    if block[2] != KIND {
         return refused(2);
     }
     let stamp = read_stamp(block);
@@ -53,7 +53,7 @@ pub fn read_head(block: &[u8]) -> HeadRead
     let count = words::get_u16(block, COUNT);
     let body = Head { count };
     let rules = both(stamp.rules(1), body.rules(setup, stamp.agent));
-    if rules {
+    if both(rules, framed(block, KIND, END)) {
         HeadRead {
             refusal: 0,
             stamp,

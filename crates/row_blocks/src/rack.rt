@@ -62,7 +62,7 @@ pub fn read_rack(block: &[u8]) -> RackRowRead
     if block.len() != BLOCK {
         return refused(1);
     }
-    if !framed(block, KIND, END) {
+    if block[2] != KIND {
         return refused(2);
     }
     let stamp = read_stamp(block);
@@ -72,7 +72,8 @@ pub fn read_rack(block: &[u8]) -> RackRowRead
     let pval = pval_read.value;
     let body = RackRow { prnd, pval };
     let rules = both(stamp.rules(setup.racks), body.rules(setup, stamp.agent));
-    if both(pval_read.exact, rules) {
+    let right = both(pval_read.exact, rules);
+    if both(right, framed(block, KIND, END)) {
         RackRowRead {
             refusal: 0,
             stamp,

@@ -66,7 +66,7 @@ pub fn read_reader(block: &[u8]) -> ReaderRowRead
     if block.len() != BLOCK {
         return refused(1);
     }
-    if !framed(block, KIND, END) {
+    if block[2] != KIND {
         return refused(2);
     }
     let stamp = read_stamp(block);
@@ -80,7 +80,8 @@ pub fn read_reader(block: &[u8]) -> ReaderRowRead
     let body = ReaderRow { page, held, blanks };
     let exact = both(page_read.exact, both(held_read.exact, blanks_read.exact));
     let rules = both(stamp.rules(setup.readers), body.rules(setup, stamp.agent));
-    if both(exact, rules) {
+    let right = both(exact, rules);
+    if both(right, framed(block, KIND, END)) {
         ReaderRowRead {
             refusal: 0,
             stamp,

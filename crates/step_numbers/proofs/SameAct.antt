@@ -8,7 +8,7 @@ use borrow.Author.Tests.{ltb-true, leb-true, eqb-true}
 use mathlib.Core.Path.{_≡_, refl, ap, subst, _∙_}
 use mathlib.Core.Bool.{Bool, true, false, not, _||_}
 use mathlib.Core.List.{List}
-use Rattle.below.specs.Refusals.{unless, granted}
+use Rattle.below.specs.Refusals.{unless, granted, badBlock, otherHall}
 use Rattle.below.proofs.Tests.{and-left, and-right}
 use Rattle.rounds.specs.declared.setup.Setup.{Setup}
 use Rattle.rounds.specs.declared.round.Round.{Round}
@@ -18,7 +18,7 @@ use Rattle.records.specs.declared.stamp.Stamp.{Stamp}
 use Rattle.blocks.proofs.Ranges.{SetupFits, round-fits, some-small}
 use Rattle.acts.specs.declared.step.Step.{Step}
 use Rattle.acts.specs.Acts.{Act, actOf, joinAct, hearAct, prepareAct, fastAct, blankAct, takePageAct, takeReadingAct, noteVoteAct, noteBlankAct, learnAct}
-use Rattle.acts.specs.Named.{badBlock, otherHall, isGood, stampOf, sameHall, names, ownAct, ownRow, namedRefusal}
+use Rattle.acts.specs.Named.{isGood, stampOf, sameHall, names, ownAct, ownRow, namedRefusal}
 use Rattle.acts.specs.Answers.{stepOf}
 use Rattle.hall.specs.Steps.{isCode, numbersInRange}
 use Rattle.step_numbers.specs.Narrowed.{narrowed}
