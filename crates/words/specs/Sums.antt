@@ -17,6 +17,10 @@ secondSum start (suc n) word = (secondSum start n word + firstSum start (suc n) 
 abbrev pub wordOf : List ℕ → ℕ → ℕ
 wordOf bytes k = number4 bytes (4 * k)
 
+-- three thirds of 42 words laid together, word by word
+abbrev pub together : (ℕ → ℕ) → ℕ → ℕ
+together word k = ((word k + word (42 + k)) % 2 ^ 32 + word (84 + k)) % 2 ^ 32
+
 -- both over the 126 words of a block before its check words
 abbrev pub words : ℕ
 words = 126
