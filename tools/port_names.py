@@ -17,9 +17,11 @@ CAMEL = re.compile(r"(?<![\w'′-])[a-z][a-z0-9]*(?:[A-Z][a-z0-9]*)+(?![\w'′])
 NAME = r"[A-Za-z_][\w'′₀-₉]*(?:-[\w'′₀-₉]+)+"
 # a name declared: at the head of a line, `name :` or `pub name :`
 DECLARED = re.compile(r"^\s*(?:abbrev |unfoldable )?(?:pub )?(" + NAME + r") :(?!:)", re.M)
-TOKEN = re.compile(r"(?<![\w'′.-])" + NAME)
+# a lemma, also behind an alias of its module; and a field of this repository's own records
+TOKEN = re.compile(r"(?:(?<![\w'′.-])|(?<=\b[A-Z]\.))" + NAME)
+FIELD = re.compile(r"(?<=\.)" + NAME)
 # std's functions and words that lemmas of this repository speak of by name
-FIRST = {"length", "take", "drop", "get_or", "replicate", "encode", "decode"}
+FIRST = {"length", "get_or", "replicate", "encode", "decode"}
 STD = {"length", "take", "drop", "set", "get_or", "append", "replicate", "map", "eqb", "leb", "ltb", "cond", "div", "mod"}
 # what would fall together with a field, a lemma, an alias or a tactic gets a name of its own
 SPECIAL = {"inPlace": "is_in_place", "atSetup": "setup_stage", "append-lines": "append_lines_lem", "first-of": "first_sum_is", "second-of": "second_sum_is",
@@ -78,6 +80,7 @@ def main():
         if new != n:
             to[n] = new
     to.update(SPECIAL)
+    to.update({snake(old): new for old, new in to.items() if "-" in old})
     # what falls together with another name, as `zero-at` and `zeroAt`, is a lemma that would have its function's name
     words = set()
     for t in source.values():
@@ -107,6 +110,8 @@ def main():
             new = CAMEL.sub(lambda m: to.get(m.group(0), m.group(0)), t)
         if not f.endswith(".rt") and not f.endswith(".edit"):
             # fields and variables inside a dashed name, as `has-setOf`, are turned with the whole
+            if re.match(r"crates/\w+/(specs|proofs)/\w+\.antt$", f):
+                new = FIELD.sub(dash, new)
             new = TOKEN.sub(dash, new) if f.startswith("crates/") else re.sub(r"`(" + NAME + r")`", lambda m: "`" + to.get(m.group(1), m.group(1)) + "`", new)
         if new != t:
             open(f, "w", encoding="utf8").write(new)

@@ -92,13 +92,13 @@ module _ (hall : Stamp) (late : ℕ) (x : Numbers) (row message : List ℕ) wher
   unfolding named_refusal act_of both_refusal
   as_blank e h = at_code 8 e h
 
-  pub as_take-page : {code n : ℕ} {b : Bool} {a s a' s' : List ℕ} → code ≡ 9 → ActsOnBoth hall late row message take_page_act n b a s a' s' → Coded code n b a s a' s'
+  pub as_take_page : {code n : ℕ} {b : Bool} {a s a' s' : List ℕ} → code ≡ 9 → ActsOnBoth hall late row message take_page_act n b a s a' s' → Coded code n b a s a' s'
   unfolding named_refusal act_of both_refusal
-  as_take-page e h = at_code 9 e h
+  as_take_page e h = at_code 9 e h
 
-  pub as_take-reading : {code n : ℕ} {b : Bool} {a s a' s' : List ℕ} → code ≡ 10 → ActsOnBoth hall late row message take_reading_act n b a s a' s' → Coded code n b a s a' s'
+  pub as_take_reading : {code n : ℕ} {b : Bool} {a s a' s' : List ℕ} → code ≡ 10 → ActsOnBoth hall late row message take_reading_act n b a s a' s' → Coded code n b a s a' s'
   unfolding named_refusal act_of both_refusal
-  as_take-reading e h = at_code 10 e h
+  as_take_reading e h = at_code 10 e h
 
   pub as_note_vote : {code n : ℕ} {a s a' : List ℕ} → code ≡ 11 → KeepsOnBoth hall late row message note_vote_act n a a' → Coded code n false a s a' s
   unfolding named_refusal act_of both_refusal

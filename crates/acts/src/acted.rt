@@ -1,5 +1,5 @@
 // What an act answers.
-#[derive(Drop)]
+#[derive(Clone, Copy)]
 pub struct Acted {
     pub refusal: u8,
     // Whether a message was written.

@@ -5,6 +5,8 @@
 // of the caller's; where it is refused they stay. The hall's step and the C step both go by it; what
 // comes before and after is theirs. They have looked at the lengths, so an act asks for blocks of 512
 // bytes, and hand on what they found out of range as `late`, which stands between the two refusals 2.
+#![tactic(auto)]
+
 mod acted;
 mod acts;
 mod box_acts;

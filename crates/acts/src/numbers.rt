@@ -3,7 +3,7 @@ use pages::Reading;
 use rounds::Round;
 
 // Those that a step doesn't name are any at all.
-#[derive(Drop)]
+#[derive(Clone, Copy)]
 pub struct Numbers {
     pub round: Round,
     pub reading: Reading,

@@ -1,5 +1,5 @@
 // A step's seven numbers, any at all.
-#[derive(Drop)]
+#[derive(Clone, Copy)]
 pub struct Step {
     pub code: u32,
     pub agent: u32,

@@ -3,6 +3,8 @@
 // library is said by these few definitions, with their laws in proofs/. The code is only the two
 // joins of tests by which rules are put together without branches, what a test adds to a count, and
 // the numbers of the refusals.
+#![tactic(auto)]
+
 mod refusals;
 
 ghost use Rattle.std.specs.Prelude.{◌≡◌, cond, ◌&&◌, ◌||◌, ◌≤◌};

@@ -5,6 +5,8 @@
 // coordinators, 1 reader, c0 0 and both racks in cf0.
 //
 // A block is changed through `set`, which has no effect past its end.
+#![tactic(auto)]
+
 mod box_cases;
 mod coordinator_cases;
 mod head_cases;
@@ -20,7 +22,7 @@ mod two_s_cases;
 use blocks::{BLOCK, CHECKS};
 use libc::STDOUT_FILENO;
 
-#[derive(Drop)]
+#[derive(Clone, Copy)]
 pub struct Block {
     pub bytes: [u8; BLOCK],
 }

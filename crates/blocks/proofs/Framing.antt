@@ -28,7 +28,7 @@ fixed_lawful x l =
       small = λ u h. one_lawful.small x l;
       fit = λ bytes h at. tt;
       back = λ u h bytes at e. refl;
-      exact_cut = λ bytes h at e. one_lawful.exact-cut bytes h at refl ∙ ap (λ (y : ℕ). y ∷ []) (eqb-true (byte bytes at) x e);
+      exact_cut = λ bytes h at e. one_lawful.exact_cut bytes h at refl ∙ ap (λ (y : ℕ). y ∷ []) (eqb-true (byte bytes at) x e);
       cut_exact = λ bytes h at e. eq-eqb (byte bytes at) x (one_lawful.back x l bytes at e);
     }
 

@@ -129,12 +129,12 @@ module _ {A : Type 0} (k : Kind A) (P : A → Type 0) (proper : Proper k P) wher
         is : cut words_end bytes 0 ≡ (content k).put (decode k bytes)
         is =
             ap (λ (n : ℕ). cut n bytes 0) (sym content_size) ∙
-            whole.exact-cut bytes small 0
+            whole.exact_cut bytes small 0
             (and_true (and_true (and_left kind_right rest_right outside) refl)
             (and_true (and_left (k.body.exact bytes body_at) ((kind_right && rest_right) && (first_right && second_right)) h) (and_right kind_right rest_right outside)))
 
         check : (at : ℕ) {x : ℕ} → number4 bytes at ≡ x → cut 4 bytes at ≡ bytes4 x
-        check at e = four_lawful.exact-cut bytes small at refl ∙ ap bytes4 e
+        check at e = four_lawful.exact_cut bytes small at refl ∙ ap bytes4 e
 
         joined : {a b c x y z : List ℕ} → a ≡ x → b ≡ y → c ≡ z → a ++ (b ++ c) ≡ x ++ (y ++ z)
         joined p q r = rw (p, q, r)
@@ -175,7 +175,7 @@ module _ {A : Type 0} (k : Kind A) (P : A → Type 0) (proper : Proper k P) wher
         second_cut = rest_same (cut 4 bytes words_end) (cut 4 bytes (words_end + 4)) (bytes4 (first_sum_of words_is)) (bytes4 (second_sum_of words_is)) (length_cut 4 bytes words_end) both_cut
 
         exact : (kind_right && true) && (k.body.exact bytes body_at && rest_right) ≡ true
-        exact = whole.cut-exact bytes small 0 (ap (λ (n : ℕ). cut n bytes 0) content_size ∙ is)
+        exact = whole.cut_exact bytes small 0 (ap (λ (n : ℕ). cut n bytes 0) content_size ∙ is)
 
         inside : k.body.exact bytes body_at && rest_right ≡ true
         inside = and_right (kind_right && true) _ exact

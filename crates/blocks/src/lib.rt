@@ -4,6 +4,8 @@
 //
 // Every function asks for a block of 512 bytes: the readers and writers of the kinds, which stand
 // above, have looked at the length first. What a body holds is no business of this crate.
+#![tactic(auto)]
+
 ghost use Rattle.std.specs.Prelude.{◌≡◌, ◌+◌, ◌-◌, ◌≤◌, length};
 ghost use Rattle.words.specs.Bytes.{Spliced};
 ghost use Rattle.blocks.specs.Frame.{block_size, words_end, setup_bytes, stamp_as, framed, Sealed};

@@ -23,7 +23,7 @@ const RACKS_AT: usize = 3;
 
 const READER: u8 = 20;
 
-#[derive(Drop)]
+#[derive(Clone, Copy)]
 struct Judged {
     good: bool,
     in_place: bool,

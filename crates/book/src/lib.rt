@@ -4,6 +4,8 @@
 // document 01's order, and then nothing lent is changed. The list is walked once, into room of its
 // own, since whether it fits the lent row is known only at its end. How a block stands in bytes,
 // and what makes it good, is no business of this crate.
+#![tactic(auto)]
+
 mod judging;
 mod walking;
 
@@ -16,7 +18,7 @@ use blocks::BLOCK;
 
 const TOO_SHORT: u8 = 10;
 
-#[derive(Drop)]
+#[derive(Clone, Copy)]
 pub struct Booked {
     pub refusal: u8,
     // How many numbers of the lent row are the list; 0 if refused.

@@ -3,6 +3,8 @@
 // It takes any lent bytes and any seven numbers, of which agent and message number are ignored: the
 // agent is the row's own. Its order of refusals differs from the hall's (specs/BoxSteps.antt); what the
 // step makes of the two blocks is the same act. On a refusal not one byte changes.
+#![tactic(auto)]
+
 ghost use Rattle.std.specs.Prelude.{eqb, length, cond, ◌&&◌, ◌≡◌};
 ghost use Rattle.words.specs.Bytes.{zeros};
 ghost use Rattle.blocks.specs.Frame.{block_size};

@@ -78,9 +78,9 @@ pub may_no_clash : (row : BoxRow) (round : Round) → may_vote row round ≡ tru
 may_no_clash row round h = not-true _ (and_right (is_up_to (order_of row.rnd round)) _ h)
 
 -- 9 take page
-pub take-page_number : (row : BoxRow) (m : TwoS) → (take_page_of row m).refusal ≡ take_page_refusal row m
+pub take_page_number : (row : BoxRow) (m : TwoS) → (take_page_of row m).refusal ≡ take_page_refusal row m
 unfolding take_page_of
-take-page_number row m = taken_number (take_page_refusal row m) row m.round m.page
+take_page_number row m = taken_number (take_page_refusal row m) row m.round m.page
 
 pub record TakePageGranted (row : BoxRow) (m : TwoS) : Type 0 where
   pub some_line : empty_of m.page ≡ false
@@ -89,9 +89,9 @@ pub record TakePageGranted (row : BoxRow) (m : TwoS) : Type 0 where
   pub row_is : (take_page_of row m).row ≡ voted m.round m.page
   pub sent_is : (take_page_of row m).sent ≡ telling m.round m.page
 
-pub take-page_granted : (row : BoxRow) (m : TwoS) → (take_page_of row m).refusal ≡ granted → TakePageGranted row m
+pub take_page_granted : (row : BoxRow) (m : TwoS) → (take_page_of row m).refusal ≡ granted → TakePageGranted row m
 unfolding take_page_of take_page_refusal
-take-page_granted row m h =
+take_page_granted row m h =
     record {
       some_line = not-true (empty_of m.page) (unless_held _ wrong_message rest (omega arith) number);
       may = unless_held _ wrong_round later (omega arith) number';
@@ -110,7 +110,7 @@ take-page_granted row m h =
     rest = unless (may_vote row m.round) wrong_round later
 
     number : take_page_refusal row m ≡ granted
-    number = sym (take-page_number row m) ∙ h
+    number = sym (take_page_number row m) ∙ h
 
     number' : rest ≡ granted
     number' = unless_later (not (empty_of m.page)) wrong_message rest (omega arith) number
@@ -118,15 +118,15 @@ take-page_granted row m h =
     answer : take_page_of row m ≡ record { refusal = granted; row = voted m.round m.page; sent = telling m.round m.page }
     answer = taken_granted (take_page_refusal row m) row m.round m.page number
 
-pub take-page_refused : (row : BoxRow) (m : TwoS) → (take_page_refusal row m ≡ granted → ⊥) →
+pub take_page_refused : (row : BoxRow) (m : TwoS) → (take_page_refusal row m ≡ granted → ⊥) →
     take_page_of row m ≡ record { refusal = take_page_refusal row m; row = row; sent = no_two_b }
 unfolding take_page_of
-take-page_refused row m h = taken_refused (take_page_refusal row m) row m.round m.page h
+take_page_refused row m h = taken_refused (take_page_refusal row m) row m.round m.page h
 
 -- 10 take reading
-pub take-reading_number : (s : Setup) (row : BoxRow) (rack : ℕ) (m : TwoA) → (take_reading_of s row rack m).refusal ≡ take_reading_refusal row m
+pub take_reading_number : (s : Setup) (row : BoxRow) (rack : ℕ) (m : TwoA) → (take_reading_of s row rack m).refusal ≡ take_reading_refusal row m
 unfolding take_reading_of
-take-reading_number s row rack m = taken_number (take_reading_refusal row m) row m.round (take_reading_page s row rack m)
+take_reading_number s row rack m = taken_number (take_reading_refusal row m) row m.round (take_reading_page s row rack m)
 
 pub record TakeReadingGranted (s : Setup) (row : BoxRow) (rack : ℕ) (m : TwoA) : Type 0 where
   pub reading : (r : Reading.Reading) × (m.line.mark ≡ reads r)
@@ -134,9 +134,9 @@ pub record TakeReadingGranted (s : Setup) (row : BoxRow) (rack : ℕ) (m : TwoA)
   pub row_is : (take_reading_of s row rack m).row ≡ voted m.round (take_reading_page s row rack m)
   pub sent_is : (take_reading_of s row rack m).sent ≡ telling m.round (take_reading_page s row rack m)
 
-pub take-reading_granted : (s : Setup) (row : BoxRow) (rack : ℕ) (m : TwoA) → (take_reading_of s row rack m).refusal ≡ granted → TakeReadingGranted s row rack m
+pub take_reading_granted : (s : Setup) (row : BoxRow) (rack : ℕ) (m : TwoA) → (take_reading_of s row rack m).refusal ≡ granted → TakeReadingGranted s row rack m
 unfolding take_reading_of take_reading_refusal
-take-reading_granted s row rack m h =
+take_reading_granted s row rack m h =
     record {
       reading = reading_is m.line.mark (unless_held (is_reading m.line.mark) wrong_message later (omega arith) number);
       may = unless_held _ wrong_round granted (omega arith) (unless_later (is_reading m.line.mark) wrong_message later (omega arith) number);
@@ -151,15 +151,15 @@ take-reading_granted s row rack m h =
     page = take_reading_page s row rack m
 
     number : take_reading_refusal row m ≡ granted
-    number = sym (take-reading_number s row rack m) ∙ h
+    number = sym (take_reading_number s row rack m) ∙ h
 
     answer : take_reading_of s row rack m ≡ record { refusal = granted; row = voted m.round page; sent = telling m.round page }
     answer = taken_granted (take_reading_refusal row m) row m.round page number
 
-pub take-reading_refused : (s : Setup) (row : BoxRow) (rack : ℕ) (m : TwoA) → (take_reading_refusal row m ≡ granted → ⊥) →
+pub take_reading_refused : (s : Setup) (row : BoxRow) (rack : ℕ) (m : TwoA) → (take_reading_refusal row m ≡ granted → ⊥) →
     take_reading_of s row rack m ≡ record { refusal = take_reading_refusal row m; row = row; sent = no_two_b }
 unfolding take_reading_of
-take-reading_refused s row rack m h = taken_refused (take_reading_refusal row m) row m.round (take_reading_page s row rack m) h
+take_reading_refused s row rack m h = taken_refused (take_reading_refusal row m) row m.round (take_reading_page s row rack m) h
 
 -- the page of that vote: the first of its round, or one line more
 pub first_reading : (s : Setup) (row : BoxRow) (rack : ℕ) (m : TwoA) → Lower row.vrnd m.round ⊎ (row.vval.some ≡ false) →

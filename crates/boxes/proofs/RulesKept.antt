@@ -26,7 +26,7 @@ use Rattle.records.specs.declared.rows.BoxRow.{BoxRow}
 use Rattle.records.specs.Rules.{page_rules, last_rules, own_rules, open_rules, box_rules, one_a_rules, one_b_rules, two_s_rules, two_a_rules, two_b_rules}
 use Rattle.records.proofs.RuleParts.{setup_racks, own_range, open_within, open_valued, vote_within, vote_valued, last_vote, last_some_rules}
 use Rattle.boxes.specs.Steps.{join_of, voted, telling, take_page_of, take_reading_page, take_reading_of}
-use Rattle.boxes.proofs.GrantedSteps.{JoinGranted, join_granted, TakePageGranted, take-page_granted, TakeReadingGranted, take-reading_granted}
+use Rattle.boxes.proofs.GrantedSteps.{JoinGranted, join_granted, TakePageGranted, take_page_granted, TakeReadingGranted, take_reading_granted}
 
 -- the parts of a box's row
 box_last : (s : Setup) (agent : ℕ) (row : BoxRow) → box_rules s agent row ≡ true → last_rules s row.vrnd row.vval ≡ true
@@ -81,16 +81,16 @@ unfolding two_b_rules
 telling_good s agent round page r w v = and_true (and_true r w) v
 
 -- 9 take page
-pub take-page_keeps : (s : Setup) (agent sender : ℕ) (row : BoxRow) (m : TwoS) → two_s_rules s sender m ≡ true → (take_page_of row m).refusal ≡ granted →
+pub take_page_keeps : (s : Setup) (agent sender : ℕ) (row : BoxRow) (m : TwoS) → two_s_rules s sender m ≡ true → (take_page_of row m).refusal ≡ granted →
     (box_rules s agent (take_page_of row m).row ≡ true) × (two_b_rules s agent (take_page_of row m).sent ≡ true)
 unfolding two_s_rules
-take-page_keeps s agent sender row m good h = (
+take_page_keeps s agent sender row m good h = (
   ap (box_rules s agent) facts.row_is ∙ voted_good s agent m.round m.page range within valued,
   ap (two_b_rules s agent) facts.sent_is ∙ telling_good s agent m.round m.page range within valued,
 )
   where
     facts : TakePageGranted row m
-    facts = take-page_granted row m h
+    facts = take_page_granted row m h
 
     page_good : open_rules s m.page ≡ true
     page_good = and_right (own_rules s sender m.round) _ good
@@ -102,20 +102,20 @@ take-page_keeps s agent sender row m good h = (
     within = open_within s m.page page_good
 
     valued : valued_of m.page ≡ true
-    valued = open_valued s m.page page_good facts.some-line
+    valued = open_valued s m.page page_good facts.some_line
 
 -- 10 take reading, of a rack of the hall
-pub take-reading_keeps : (s : Setup) (agent : ℕ) (row : BoxRow) (rack : ℕ) (m : TwoA) → setup_in_range s ≡ true → rack < s.racks → box_rules s agent row ≡ true →
+pub take_reading_keeps : (s : Setup) (agent : ℕ) (row : BoxRow) (rack : ℕ) (m : TwoA) → setup_in_range s ≡ true → rack < s.racks → box_rules s agent row ≡ true →
     two_a_rules s rack m ≡ true → (take_reading_of s row rack m).refusal ≡ granted →
     (box_rules s agent (take_reading_of s row rack m).row ≡ true) × (two_b_rules s agent (take_reading_of s row rack m).sent ≡ true)
 unfolding two_a_rules take_reading_page
-take-reading_keeps s agent row rack m hall l rules good h = (
+take_reading_keeps s agent row rack m hall l rules good h = (
   ap (box_rules s agent) facts.row_is ∙ voted_good s agent m.round (take_reading_page s row rack m) range within valued,
   ap (two_b_rules s agent) facts.sent_is ∙ telling_good s agent m.round (take_reading_page s row rack m) range within valued,
 )
   where
     facts : TakeReadingGranted s row rack m
-    facts = take-reading_granted s row rack m h
+    facts = take_reading_granted s row rack m h
 
     range : round_in_range s m.round ≡ true
     range = and_left _ (mark_in_range m.line.mark) (and_left _ (has m.round.cf rack) (and_left _ (not (is_absent m.line.mark)) good))

@@ -44,14 +44,14 @@ taken_shape number row round page h p = go (eqb number granted)
     go true = (p, p)
     go false = (h, empty_whole)
 
-pub take-page_shape : (row : BoxRow) (m : TwoS) → BoxShape row → Whole m.page → BoxShape (take_page_of row m).row × Whole (take_page_of row m).sent.page
+pub take_page_shape : (row : BoxRow) (m : TwoS) → BoxShape row → Whole m.page → BoxShape (take_page_of row m).row × Whole (take_page_of row m).sent.page
 unfolding take_page_of
-take-page_shape row m h p = taken_shape (take_page_refusal row m) row m.round m.page h p
+take_page_shape row m h p = taken_shape (take_page_refusal row m) row m.round m.page h p
 
-pub take-reading_shape : (s : Setup) (row : BoxRow) (rack : ℕ) (m : TwoA) → BoxShape row →
+pub take_reading_shape : (s : Setup) (row : BoxRow) (rack : ℕ) (m : TwoA) → BoxShape row →
     BoxShape (take_reading_of s row rack m).row × Whole (take_reading_of s row rack m).sent.page
 unfolding take_reading_of take_reading_page
-take-reading_shape s row rack m h =
+take_reading_shape s row rack m h =
     taken_shape (take_reading_refusal row m) row m.round (take_reading_page s row rack m) h
     (built (is_below (order_of row.vrnd m.round) || not row.vval.some))
   where

@@ -11,8 +11,8 @@ use Rattle.boxes.proofs.steps.take_reading.Reads as take-reading-reads
 pub join_unique : Determines 0 join-kinds.ps join-kinds.r join-reads.Post
 join_unique κs a x y s t p q = p ∙ sym q
 
-pub take-page_unique : Determines 0 take-page-kinds.ps take-page-kinds.r take-page-reads.Post
-take-page_unique κs a x y s t p q = p ∙ sym q
+pub take_page_unique : Determines 0 take-page-kinds.ps take-page-kinds.r take-page-reads.Post
+take_page_unique κs a x y s t p q = p ∙ sym q
 
-pub take-reading_unique : Determines 0 take-reading-kinds.ps take-reading-kinds.r take-reading-reads.Post
-take-reading_unique κs a x y s t p q = p ∙ sym q
+pub take_reading_unique : Determines 0 take-reading-kinds.ps take-reading-kinds.r take-reading-reads.Post
+take_reading_unique κs a x y s t p q = p ∙ sym q

@@ -1,5 +1,6 @@
 // The C interface, declared and documented in include/chinchor.h: nothing but exported functions over
 // the others. In C each lent buffer is a pointer, then its length.
+#![tactic(auto)]
 
 ghost use Rattle.rounds.specs.Setups.{setup_of};
 ghost use Rattle.hall.specs.Halls.{Sets};

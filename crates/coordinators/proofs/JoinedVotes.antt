@@ -143,7 +143,7 @@ module _ (takes : ℕ → Bool) (pages : ℕ → Page) where
       compatible_of (pages a) (pages b) ≡ true
   joined_compatible n h a b l m t u =
       lines_compatible (pages a) (pages b)
-      ((A.compatible-iff-bounded most_racks (at (pages a)) (at (pages b))).1
+      ((A.compatible_iff_bounded most_racks (at (pages a)) (at (pages b))).1
       (at (join_votes takes pages n).page, prefix_lines (pages a) _ (joined_above n h a l t), prefix_lines (pages b) _ (joined_above n h b m u)))
 
   -- the join has lines of the hall's racks alone if the pages have

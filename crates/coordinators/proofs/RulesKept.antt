@@ -165,7 +165,7 @@ open_page_good s agent r rules joined = go (any_vote r) refl
     complete =
         lines_complete (racks_below s.racks) (nil_extension (racks_below s.racks) (joined_votes r).page)
         (λ k l i.
-        ap is_absent (at_nil (racks_below s.racks) (joined_votes r).page k l) ∙ A.nil-complete most_racks (racks_below s.racks) (at (joined_votes r).page) k l i)
+        ap is_absent (at_nil (racks_below s.racks) (joined_votes r).page k l) ∙ A.nil_complete most_racks (racks_below s.racks) (at (joined_votes r).page) k l i)
 
     go : (b : Bool) → any_vote r ≡ b → open_rules s (open_page s r) ≡ true
     go true e =

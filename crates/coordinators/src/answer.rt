@@ -1,20 +1,20 @@
 // What a step of a coordinator answers; where it is refused, `sent` holds no message.
 use records::{CoordinatorRow, OneA, TwoS};
 
-#[derive(Drop)]
+#[derive(Clone, Copy)]
 pub struct Started {
     pub refusal: u8,
     pub row: CoordinatorRow,
     pub sent: OneA,
 }
 
-#[derive(Drop)]
+#[derive(Clone, Copy)]
 pub struct Hearing {
     pub refusal: u8,
     pub row: CoordinatorRow,
 }
 
-#[derive(Drop)]
+#[derive(Clone, Copy)]
 pub struct Opened {
     pub refusal: u8,
     pub row: CoordinatorRow,

@@ -4,6 +4,8 @@
 // the refusal (5 to 9), the new row and the message sent, exactly as the definition of that step in
 // specs/ says. The rules of rows and messages are the records' business, blocks and places the
 // hall's.
+#![tactic(auto)]
+
 mod answer;
 mod heard;
 mod joined;

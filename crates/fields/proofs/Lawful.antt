@@ -89,8 +89,8 @@ module _ {A B : Type 0} (c : Codec A) (d : Codec B) (P : A → Type 0) (Q : B �
         fit = λ bytes h at. (p.fit bytes h at, q.fit bytes h (at + c.size));
         back = λ v h bytes at e. λ i. (p.back v.0 h.0 bytes at (front v bytes at e) i, q.back v.1 h.1 bytes (at + c.size) (rest v bytes at e) i);
         exact_cut = λ bytes h at e. cut_parts c.size d.size bytes at ∙
-            joined (p.exact-cut bytes h at (and_left (c.exact bytes at) _ e)) (q.exact-cut bytes h (at + c.size) (and_right (c.exact bytes at) _ e));
-        cut_exact = λ bytes h at e. and_true (p.cut-exact bytes h at (front ((both c d).get bytes at) bytes at e)) (q.cut-exact bytes h (at + c.size) (rest ((both c d).get bytes at) bytes at e));
+            joined (p.exact_cut bytes h at (and_left (c.exact bytes at) _ e)) (q.exact_cut bytes h (at + c.size) (and_right (c.exact bytes at) _ e));
+        cut_exact = λ bytes h at e. and_true (p.cut_exact bytes h at (front ((both c d).get bytes at) bytes at e)) (q.cut_exact bytes h (at + c.size) (rest ((both c d).get bytes at) bytes at e));
       }
     where
       sizes : {a b m n : ℕ} → a ≡ m → b ≡ n → a + b ≡ m + n
@@ -115,8 +115,8 @@ module _ {A B : Type 0} (to : A → B) (from : B → A) (c : Codec B) (P : A →
         small = λ v h. q.small (to v) (fits v h);
         fit = λ bytes h at. fitting (c.get bytes at) (q.fit bytes h at);
         back = λ v h bytes at e. ap from (q.back (to v) (fits v h) bytes at e) ∙ there v h;
-        exact_cut = λ bytes h at e. q.exact-cut bytes h at e ∙ ap c.put (sym (again (c.get bytes at) (q.fit bytes h at)));
-        cut_exact = λ bytes h at e. q.cut-exact bytes h at (e ∙ ap c.put (again (c.get bytes at) (q.fit bytes h at)));
+        exact_cut = λ bytes h at e. q.exact_cut bytes h at e ∙ ap c.put (sym (again (c.get bytes at) (q.fit bytes h at)));
+        cut_exact = λ bytes h at e. q.cut_exact bytes h at (e ∙ ap c.put (again (c.get bytes at) (q.fit bytes h at)));
       }
 
   -- for a type with fewer values: the test says which of what is read comes from one
@@ -127,7 +127,7 @@ module _ {A B : Type 0} (to : A → B) (from : B → A) (c : Codec B) (P : A →
         small = λ v h. q.small (to v) (fits v h);
         fit = λ bytes h at. fitting (c.get bytes at) (q.fit bytes h at);
         back = λ v h bytes at e. ap from (q.back (to v) (fits v h) bytes at e) ∙ there v h;
-        exact_cut = λ bytes h at e. q.exact-cut bytes h at (and_left (c.exact bytes at) _ e) ∙
+        exact_cut = λ bytes h at e. q.exact_cut bytes h at (and_left (c.exact bytes at) _ e) ∙
             ap c.put (sym (again (c.get bytes at) (q.fit bytes h at) (and_right (c.exact bytes at) _ e)));
         cut_exact = λ bytes h at e. back_again bytes h at e
             (q.back (to (from (c.get bytes at))) (fits _ (fitting (c.get bytes at) (q.fit bytes h at))) bytes at e);
@@ -135,7 +135,7 @@ module _ {A B : Type 0} (to : A → B) (from : B → A) (c : Codec B) (P : A →
     where
       back_again : (bytes : List ℕ) → Small bytes → (at : ℕ) → cut c.size bytes at ≡ c.put (to (from (c.get bytes at))) →
           c.get bytes at ≡ to (from (c.get bytes at)) → c.exact bytes at && ok (c.get bytes at) ≡ true
-      back_again bytes h at e r = and_true (q.cut-exact bytes h at (e ∙ ap c.put (sym r))) (tested (c.get bytes at) (sym r))
+      back_again bytes h at e r = and_true (q.cut_exact bytes h at (e ∙ ap c.put (sym r))) (tested (c.get bytes at) (sym r))
 
 pub four_lawful : Lawful four_bytes (λ x. x < 4294967296)
 four_lawful =

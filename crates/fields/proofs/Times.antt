@@ -76,9 +76,9 @@ module _ {A : Type 0} (n : ℕ) (past : A) (c : Codec A) (P : A → Type 0) (p :
         back = λ l h bytes at e. row_same n (values bytes at) (λ k. get_or l k past) (λ k b. p.back (get_or l k past) (h.each k b) bytes (at + c.size * k) (piece l bytes at e k b)) ∙
             ap (λ (m : ℕ). row m (λ k. get_or l k past)) (sym h.many) ∙ row_of_list past l;
         exact_cut = λ bytes h at e. cut_run c.size n bytes at ∙
-            run_same n _ (pieces (row n (values bytes at))) (λ k b. p.exact-cut bytes h (at + c.size * k) (all_at n (λ j. c.exact bytes (at + c.size * j)) e k b) ∙
+            run_same n _ (pieces (row n (values bytes at))) (λ k b. p.exact_cut bytes h (at + c.size * k) (all_at n (λ j. c.exact bytes (at + c.size * j)) e k b) ∙
             ap c.put (sym (row_at n (values bytes at) k past b)));
-        cut_exact = λ bytes h at e. all_true n (λ j. c.exact bytes (at + c.size * j)) (λ k b. p.cut-exact bytes h (at + c.size * k)
+        cut_exact = λ bytes h at e. all_true n (λ j. c.exact bytes (at + c.size * j)) (λ k b. p.cut_exact bytes h (at + c.size * k)
             (piece (row n (values bytes at)) bytes at e k b ∙ ap c.put (row_at n (values bytes at) k past b)));
       }
     where

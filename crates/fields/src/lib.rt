@@ -5,6 +5,8 @@
 // 2, no reading where the state has none). Every function asks that its field lies in the bytes:
 // callers look at a block's length once, and a field's place is a constant. Which fields a kind of
 // block has, and the rules of its record, are no business of this crate.
+#![tactic(auto)]
+
 mod basic;
 mod lines;
 mod slots;

@@ -11,19 +11,19 @@ use pages::{Line, Mark, Page, RACKS, Reading, Vote};
 // The bytes of a line.
 const LINE: usize = 5;
 
-#[derive(Drop)]
+#[derive(Clone, Copy)]
 pub struct LineRead {
     pub value: Line,
     pub exact: bool,
 }
 
-#[derive(Drop)]
+#[derive(Clone, Copy)]
 pub struct PageRead {
     pub value: Page,
     pub exact: bool,
 }
 
-#[derive(Drop)]
+#[derive(Clone, Copy)]
 pub struct VoteRead {
     pub value: Vote,
     pub exact: bool,

@@ -18,37 +18,37 @@ const HELD: usize = 45;
 
 const BLANK: usize = 5;
 
-#[derive(Drop)]
+#[derive(Clone, Copy)]
 struct HeardSlot {
     value: Heard,
     exact: bool,
 }
 
-#[derive(Drop)]
+#[derive(Clone, Copy)]
 struct HeldSlot {
     value: Held,
     exact: bool,
 }
 
-#[derive(Drop)]
+#[derive(Clone, Copy)]
 struct BlankSlot {
     value: Blank,
     exact: bool,
 }
 
-#[derive(Drop)]
+#[derive(Clone, Copy)]
 pub struct HeardRead {
     pub value: [Heard; BOXES],
     pub exact: bool,
 }
 
-#[derive(Drop)]
+#[derive(Clone, Copy)]
 pub struct HeldRead {
     pub value: [Held; BOXES],
     pub exact: bool,
 }
 
-#[derive(Drop)]
+#[derive(Clone, Copy)]
 pub struct BlanksRead {
     pub value: [Blank; RACKS],
     pub exact: bool,

@@ -3,6 +3,8 @@
 // Setup takes any lent bytes and any numbers: 1 for another length, 11 out of range, else all 118
 // blocks are written, the unused ones zero. The hall's step is defined here, in specs/Steps.antt, and
 // its code is in hall_step: demand 3 speaks of these definitions.
+#![tactic(auto)]
+
 mod fresh;
 mod set_up;
 

@@ -69,13 +69,13 @@ module _ (h : Stamp) (row message : List ℕ) where
   unfolding blank_act
   blank_sized = sends_sized rack RackFits rack_proper two_a TwoAFits two_a_proper (is_a rack row && is_a two_a message) h _ _ _
 
-  take-page_sized : Sized (take_page_act h row message)
+  take_page_sized : Sized (take_page_act h row message)
   unfolding take_page_act
-  take-page_sized = sends_sized box BoxFits box_proper two_b TwoBFits two_b_proper (is_a box row && is_a two_s message) h _ _ _
+  take_page_sized = sends_sized box BoxFits box_proper two_b TwoBFits two_b_proper (is_a box row && is_a two_s message) h _ _ _
 
-  take-reading_sized : Sized (take_reading_act h row message)
+  take_reading_sized : Sized (take_reading_act h row message)
   unfolding take_reading_act
-  take-reading_sized = sends_sized box BoxFits box_proper two_b TwoBFits two_b_proper (is_a box row && is_a two_a message) h _ _ _
+  take_reading_sized = sends_sized box BoxFits box_proper two_b TwoBFits two_b_proper (is_a box row && is_a two_a message) h _ _ _
 
   note_vote_sized : Sized (note_vote_act h row message)
   unfolding note_vote_act
@@ -100,6 +100,6 @@ module _ (h : Stamp) (row message : List ℕ) where
       (either_sized (eqb x.code 6) _ _ prepare_sized
       (either_sized (eqb x.code 7) _ _ fast_sized
       (either_sized (eqb x.code 8) _ _ blank_sized
-      (either_sized (eqb x.code 9) _ _ take-page_sized
-      (either_sized (eqb x.code 10) _ _ take-reading_sized
+      (either_sized (eqb x.code 9) _ _ take_page_sized
+      (either_sized (eqb x.code 10) _ _ take_reading_sized
       (either_sized (eqb x.code 11) _ _ note_vote_sized (either_sized (eqb x.code 12) _ _ note_blank_sized (learn_sized _))))))))))))

@@ -114,7 +114,7 @@ module _ (hall : List ℕ) (x : Step) (g : hall_refusal hall x ≡ granted) wher
   posted_keeps s =
       record {
         long = put_length first head' 0 first_long (omega arith) size;
-        stays = λ place e. put_other first head' 0 first_long (omega arith) size place e.here e.not-head ∙ put_other hall sent (messages_at + count_of hall) facts.0.long room (sizes.1 s) place e.here e.not-next;
+        stays = λ place e. put_other first head' 0 first_long (omega arith) size place e.here e.not_head ∙ put_other hall sent (messages_at + count_of hall) facts.0.long room (sizes.1 s) place e.here e.not_next;
       }
     where
       sent : List ℕ
@@ -145,7 +145,7 @@ module _ (hall : List ℕ) (x : Step) (g : hall_refusal hall x ≡ granted) wher
       let mid = post_keeps (hall_act hall x).sends refl in
       record {
         long = put_length _ (hall_act hall x).row (row_place x) mid.long (omega (arith, within)) sizes.0;
-        stays = λ place e. put_other _ (hall_act hall x).row (row_place x) mid.long (omega (arith, within)) sizes.0 place e.here e.not-row ∙ mid.stays place e;
+        stays = λ place e. put_other _ (hall_act hall x).row (row_place x) mid.long (omega (arith, within)) sizes.0 place e.here e.not_row ∙ mid.stays place e;
       }
 
 -- granted or refused

@@ -3,6 +3,8 @@
 // Any lent bytes and any seven numbers: the refusals in their order around the act of the blocks that
 // the step names, then the message, the head and the row. What it must answer and leave is defined in
 // the crate hall, and what a step makes of its blocks is the acts' business.
+#![tactic(auto)]
+
 ghost use Rattle.std.specs.Prelude.{◌<◌, length, true, cond, ◌≡◌};
 ghost use Rattle.blocks.specs.Frame.{block_size};
 ghost use Rattle.hall.specs.Halls.{blocks_of_hall, hall_size};

@@ -5,3 +5,4 @@
 // the steps make in it; proofs/ shows that each move keeps the invariant, that chosen lines stay, agree,
 // were offered and are never all blank. No rows, messages or bytes: which step makes which move is said
 // where those are. No code.
+#![tactic(auto)]

@@ -3,6 +3,8 @@
 // It answers 1 for a wrong length, 2 for a block that is good for no kind, else 0 and the kind's
 // number. The definition, specs/Kinds.antt, names each kind once; that a block is good for at most
 // one of them is a theorem. What a block holds is for the readers of the kinds.
+#![tactic(auto)]
+
 ghost use Rattle.std.specs.Prelude.{◌≡◌, length};
 ghost use Rattle.blocks.specs.Frame.{block_size};
 ghost use Rattle.blocks.specs.Answers.{answer};
@@ -12,7 +14,7 @@ use blocks::BLOCK;
 use message_blocks::{read_one_a, read_one_b, read_propose, read_two_a, read_two_b, read_two_s};
 use row_blocks::{read_box, read_coordinator, read_head, read_rack, read_reader};
 
-#[derive(Drop)]
+#[derive(Clone, Copy)]
 pub struct KindRead {
     pub refusal: u8,
     // 0 where the block is refused.

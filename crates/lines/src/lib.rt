@@ -4,6 +4,8 @@
 // What a line says is defined over its bytes (specs/Fields.antt) and knows nothing of the scan; the
 // scan takes a byte at a time, so a line may be longer than any buffer, and proofs/ScanIsLine.antt
 // says that both agree. What the numbers mean, and where lines begin and end, is no business here.
+#![tactic(auto)]
+
 mod scan;
 mod text;
 

@@ -22,7 +22,7 @@ const NINE: u8 = 57;
 // What has been read of a line: the numbers of the fields that a space has ended, and how many; the
 // open field's value, which stays where it is once it is too large, and whether it has a digit;
 // whether anything stood on the line that no seven decimals have.
-#[derive(Drop)]
+#[derive(Clone, Copy)]
 pub struct Scan {
     pub numbers: [u32; FIELDS],
     pub ended: usize,
@@ -32,14 +32,14 @@ pub struct Scan {
 }
 
 // A line's seven numbers, all zero where it is not seven decimals.
-#[derive(Drop)]
+#[derive(Clone, Copy)]
 pub struct NumbersRead {
     pub readable: bool,
     pub numbers: [u32; FIELDS],
 }
 
 // The scan after a part of a line, and the place where that ends.
-#[derive(Drop)]
+#[derive(Clone, Copy)]
 pub struct Fed {
     pub scan: Scan,
     pub to: usize,

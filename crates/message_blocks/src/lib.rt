@@ -5,6 +5,8 @@
 // writes nothing, a refused reader gives the record of no bytes, all zero. `put_` is the writer without
 // its tests, for a record that is known to keep the rules. A kind is one line of specs/Messages.antt;
 // what makes a block good is said once, in the crate blocks.
+#![tactic(auto)]
+
 mod one_a;
 mod one_b;
 mod propose;

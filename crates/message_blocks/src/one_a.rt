@@ -18,7 +18,7 @@ const ROUND: usize = 10;
 
 const END: usize = 14;
 
-#[derive(Drop)]
+#[derive(Clone, Copy)]
 pub struct OneARead {
     pub refusal: u8,
     pub stamp: Stamp,

@@ -23,7 +23,7 @@ const VOTE: usize = 18;
 
 const END: usize = 59;
 
-#[derive(Drop)]
+#[derive(Clone, Copy)]
 pub struct OneBRead {
     pub refusal: u8,
     pub stamp: Stamp,

@@ -18,7 +18,7 @@ const READING: usize = 10;
 
 const END: usize = 14;
 
-#[derive(Drop)]
+#[derive(Clone, Copy)]
 pub struct ProposeRead {
     pub refusal: u8,
     pub stamp: Stamp,

@@ -21,7 +21,7 @@ const LINE: usize = 14;
 
 const END: usize = 19;
 
-#[derive(Drop)]
+#[derive(Clone, Copy)]
 pub struct TwoARead {
     pub refusal: u8,
     pub stamp: Stamp,

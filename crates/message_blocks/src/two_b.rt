@@ -21,7 +21,7 @@ const PAGE: usize = 14;
 
 const END: usize = 54;
 
-#[derive(Drop)]
+#[derive(Clone, Copy)]
 pub struct TwoBRead {
     pub refusal: u8,
     pub stamp: Stamp,

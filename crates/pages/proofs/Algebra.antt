@@ -53,7 +53,7 @@ module _ (n : ℕ) where
   prefix_trans v w x h j k l = L.prefix_trans (v k) (w k) (x k) (h k l) (j k l)
 
   pub prefix_antisym : (v w : Lines) → Prefix n v w → Prefix n w v → (k : ℕ) → k < n → v k ≡ w k
-  prefix_antisym v w h j k l = L.prefix-antisym (v k) (w k) (h k l) (j k l)
+  prefix_antisym v w h j k l = L.prefix_antisym (v k) (w k) (h k l) (j k l)
 
   -- append and Nil-extension extend
   pub append_extends : (v : Lines) (rack : ℕ) (m : Mark) → Prefix n v (append_lines v rack m)
@@ -65,7 +65,7 @@ module _ (n : ℕ) where
   -- compatible exactly if lines present in both are equal
   pub compatible_iff_present : (v w : Lines) → Compatible n v w ↔ ((k : ℕ) → k < n → is_absent (v k) ≡ false → is_absent (w k) ≡ false → v k ≡ w k)
   compatible_iff_present v w =
-      (λ h k l p q. L.compatible-present (v k) (w k) (h k l) p q, λ h k l. L.compatible-of-present (v k) (w k) (h k l))
+      (λ h k l p q. L.compatible_present (v k) (w k) (h k l) p q, λ h k l. L.compatible_of_present (v k) (w k) (h k l))
 
   -- the join is the least upper bound, and there is an upper bound exactly if the two are compatible
   pub join_left : (v w : Lines) → Prefix n v (join_lines v w)
@@ -75,12 +75,12 @@ module _ (n : ℕ) where
   join_right v w h k l = L.append_right (v k) (w k) (h k l)
 
   pub join_least : (v w x : Lines) → Prefix n v x → Prefix n w x → Prefix n (join_lines v w) x
-  join_least v w x h j k l = L.append-least (v k) (w k) (x k) (h k l) (j k l)
+  join_least v w x h j k l = L.append_least (v k) (w k) (x k) (h k l) (j k l)
 
   pub compatible_iff_bounded : (v w : Lines) → Compatible n v w ↔ ((x : Lines) × Prefix n v x × Prefix n w x)
   compatible_iff_bounded v w = (
     λ h. (join_lines v w, join_left v w, join_right v w h),
-    λ b k l. L.compatible-of-bound (v k) (w k) (b.0 k) (b.1 k l) (b.2 k l),
+    λ b k l. L.compatible_of_bound (v k) (w k) (b.0 k) (b.1 k l) (b.2 k l),
   )
 
   -- Nil-extension is complete on the set, adds only Nil, and is the least such extension
@@ -91,29 +91,29 @@ module _ (n : ℕ) where
       filled_in a = go (is_absent a) refl
         where
           go : (b : Bool) → is_absent a ≡ b → is_absent (append_mark a Nil) ≡ false
-          go true h = ap is_absent (L.append-absent a Nil h)
-          go false h = ap is_absent (L.append-present a Nil h) ∙ h
+          go true h = ap is_absent (L.append_absent a Nil h)
+          go false h = ap is_absent (L.append_present a Nil h) ∙ h
 
   pub nil_least : (set : ℕ → Bool) (v w : Lines) → Prefix n v w → ((k : ℕ) → k < n → set k ≡ true → is_absent (v k) ≡ true → w k ≡ Nil) →
       Prefix n (nil_lines set v) w
   nil_least set v w h only k l = go (set k) (is_absent (v k)) refl refl
     where
       go : (b a : Bool) → set k ≡ b → is_absent (v k) ≡ a → prefix_mark (cond (set k) (append_mark (v k) Nil) (v k)) (w k) ≡ true
-      go true true p q = rw (p, L.append-absent (v k) Nil q) (L.prefix_same Nil (w k) (only k l p q))
-      go true false p q = rw (p, L.append-present (v k) Nil q) (h k l)
+      go true true p q = rw (p, L.append_absent (v k) Nil q) (L.prefix_same Nil (w k) (only k l p q))
+      go true false p q = rw (p, L.append_present (v k) Nil q) (h k l)
       go false a p q = rw p (h k l)
 
   -- complete pages have no strict extension
   pub complete_no_strict_extension : (v w : Lines) → Complete n (λ k. true) v → Prefix n v w → (k : ℕ) → k < n → w k ≡ v k
-  complete_no_strict_extension v w h j k l = L.prefix-present (v k) (w k) (j k l) (h k l refl)
+  complete_no_strict_extension v w h j k l = L.prefix_present (v k) (w k) (j k l) (h k l refl)
 
   -- what every extension keeps, so append, join and Nil-extension too: readings and completeness; and a page with a reading is not trivial
   pub extension_keeps_valued : (v w : Lines) → Prefix n v w → Valued n v → Valued n w
   extension_keeps_valued v w h (k, l, e) =
-      (k, l, subst (λ (x : Mark). is_reading x ≡ true) (sym (L.prefix-present (v k) (w k) (h k l) (L.reading-present (v k) e))) e)
+      (k, l, subst (λ (x : Mark). is_reading x ≡ true) (sym (L.prefix_present (v k) (w k) (h k l) (L.reading_present (v k) e))) e)
 
   pub extension_keeps_complete : (set : ℕ → Bool) (v w : Lines) → Prefix n v w → Complete n set v → Complete n set w
-  extension_keeps_complete set v w h c k l s = ap is_absent (L.prefix-present (v k) (w k) (h k l) (c k l s)) ∙ c k l s
+  extension_keeps_complete set v w h c k l s = ap is_absent (L.prefix_present (v k) (w k) (h k l) (c k l s)) ∙ c k l s
 
   pub valued_not_trivial : (v : Lines) → Valued n v → Trivial n v → ⊥
-  valued_not_trivial v (k, l, e) t = true≢false (sym (t k l) ∙ L.reading-not-nil (v k) e)
+  valued_not_trivial v (k, l, e) t = true≢false (sym (t k l) ∙ L.reading_not_nil (v k) e)

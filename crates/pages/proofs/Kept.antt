@@ -66,13 +66,13 @@ union_within set v w h j =
 
 -- an extension has the readings
 pub prefix_valued : (v w : Page) → prefix_of v w ≡ true → valued_of v ≡ true → valued_of w ≡ true
-prefix_valued v w h j = lines_valued w (A.extension-keeps-valued most_racks (at v) (at w) (prefix_lines v w h) (valued_lines v j))
+prefix_valued v w h j = lines_valued w (A.extension_keeps_valued most_racks (at v) (at w) (prefix_lines v w h) (valued_lines v j))
 
 pub append_prefix : (v : Page) (rack : ℕ) (m : Mark) → prefix_of v (append_of v rack m) ≡ true
-append_prefix v rack m = lines_prefix v (append_of v rack m) (λ k l. rw (at_append v rack m k l) (A.append-extends most_racks (at v) rack m k l))
+append_prefix v rack m = lines_prefix v (append_of v rack m) (λ k l. rw (at_append v rack m k l) (A.append_extends most_racks (at v) rack m k l))
 
 pub nil_prefix : (over : ℕ → Bool) (v : Page) → prefix_of v (nil_extension over v) ≡ true
-nil_prefix over v = lines_prefix v (nil_extension over v) (λ k l. rw (at_nil over v k l) (A.nil-extends most_racks over (at v) k l))
+nil_prefix over v = lines_prefix v (nil_extension over v) (λ k l. rw (at_nil over v k l) (A.nil_extends most_racks over (at v) k l))
 
 -- one line alone
 pub at_one_line : (rack : ℕ) (m : Mark) → rack < most_racks → at (append_of empty rack m) rack ≡ m

@@ -116,14 +116,14 @@ unfolding join_of
 join_none v w h = rw h
 
 pub union_left : (v w : Page) → prefix_of v (union_of v w) ≡ true
-union_left v w = lines_prefix v (union_of v w) (λ k l. rw (at_union v w k l) (A.join-left most_racks (at v) (at w) k l))
+union_left v w = lines_prefix v (union_of v w) (λ k l. rw (at_union v w k l) (A.join_left most_racks (at v) (at w) k l))
 
 pub union_right : (v w : Page) → compatible_of v w ≡ true → prefix_of w (union_of v w) ≡ true
-union_right v w h = lines_prefix w (union_of v w) (λ k l. rw (at_union v w k l) (A.join-right most_racks (at v) (at w) (compatible_lines v w h) k l))
+union_right v w h = lines_prefix w (union_of v w) (λ k l. rw (at_union v w k l) (A.join_right most_racks (at v) (at w) (compatible_lines v w h) k l))
 
 pub union_least : (v w x : Page) → prefix_of v x ≡ true → prefix_of w x ≡ true → prefix_of (union_of v w) x ≡ true
 union_least v w x h j =
-    lines_prefix (union_of v w) x (λ k l. rw (at_union v w k l) (A.join-least most_racks (at v) (at w) (at x) (prefix_lines v x h) (prefix_lines w x j) k l))
+    lines_prefix (union_of v w) x (λ k l. rw (at_union v w k l) (A.join_least most_racks (at v) (at w) (at x) (prefix_lines v x h) (prefix_lines w x j) k l))
 
 pub prefix_of_refl : (v : Page) → prefix_of v v ≡ true
 prefix_of_refl v = lines_prefix v v (A.prefix_refl most_racks (at v))

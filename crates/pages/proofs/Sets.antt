@@ -35,19 +35,19 @@ has_set_of (suc n) f zero l =
 has_set_of (suc n) f (suc k) l =
     has_half (set_of (suc n) f) k ∙ ap (λ (x : ℕ). has x k) (bit_rest (f 0) (set_of n (λ j. f (suc j)))) ∙ has_set_of n (λ j. f (suc j)) k (omega arith)
 
-pub set_of-below : (n : ℕ) (f : ℕ → Bool) → set_of n f < 2 ^ n
+pub set_of_below : (n : ℕ) (f : ℕ → Bool) → set_of n f < 2 ^ n
 unfolding set_of
-set_of-below zero f = omega arith
-set_of-below (suc n) f = rw pow-succ' (go (f 0) (set_of-below n (λ k. f (suc k))))
+set_of_below zero f = omega arith
+set_of_below (suc n) f = rw pow-succ' (go (f 0) (set_of_below n (λ k. f (suc k))))
   where
     go : (b : Bool) → set_of n (λ k. f (suc k)) < 2 ^ n → cond b 1 0 + 2 * set_of n (λ k. f (suc k)) < 2 * 2 ^ n
     go true h = omega arith
     go false h = omega arith
 
-pub set_of-same : (n : ℕ) (f g : ℕ → Bool) → ((k : ℕ) → k < n → f k ≡ g k) → set_of n f ≡ set_of n g
+pub set_of_same : (n : ℕ) (f g : ℕ → Bool) → ((k : ℕ) → k < n → f k ≡ g k) → set_of n f ≡ set_of n g
 unfolding set_of
-set_of-same zero f g h = refl
-set_of-same (suc n) f g h = rw (h 0 (omega arith), set_of-same n (λ k. f (suc k)) (λ k. g (suc k)) (λ k l. h (suc k) (omega arith)))
+set_of_same zero f g h = refl
+set_of_same (suc n) f g h = rw (h 0 (omega arith), set_of_same n (λ k. f (suc k)) (λ k. g (suc k)) (λ k l. h (suc k) (omega arith)))
 
 -- a byte has no rack from 8 on
 pub has_past : (s k : ℕ) → s < 256 → 8 ≤ k → has s k ≡ false
@@ -68,7 +68,7 @@ set_more n k s f a b c h = ap (λ (x : ℕ). cond (f (k - 1)) 1 0 + 2 * x) low �
     low : s % 128 ≡ set_of (n - k) (λ j. f (k + j))
     low =
         mod-eq_of_lt {n = s} {m = 128}
-        (omega (arith, h, set_of-below (n - k) (λ j. f (k + j)), pow_mono {i = n - k} {j = 7} (omega arith))) ∙
+        (omega (arith, h, set_of_below (n - k) (λ j. f (k + j)), pow_mono {i = n - k} {j = 7} (omega arith))) ∙
         h
 
     up : set_of (n - (k - 1)) (λ j. f (k - 1 + j)) ≡ cond (f (k - 1)) 1 0 + 2 * set_of (n - k) (λ j. f (k + j))
@@ -76,7 +76,7 @@ set_more n k s f a b c h = ap (λ (x : ℕ). cond (f (k - 1)) 1 0 + 2 * x) low �
         ap (λ (m : ℕ). set_of m (λ j. f (k - 1 + j))) one_more ∙
         (rw add-zero
         (ap (λ (x : ℕ). cond (f (k - 1)) 1 0 + 2 * x)
-        (set_of-same (n - k) (λ j. f (k - 1 + suc j)) (λ j. f (k + j)) (λ j l. ap f (shift j)))))
+        (set_of_same (n - k) (λ j. f (k - 1 + suc j)) (λ j. f (k + j)) (λ j l. ap f (shift j)))))
       where
         one_more : n - (k - 1) ≡ suc (n - k)
         one_more = omega arith
@@ -86,7 +86,7 @@ set_more n k s f a b c h = ap (λ (x : ℕ). cond (f (k - 1)) 1 0 + 2 * x) low �
 
 pub set_ends : (n k s : ℕ) (f : ℕ → Bool) → s ≡ set_from n f k → k ≤ 0 → s ≡ set_of n f
 unfolding set_from
-set_ends n k s f h l = h ∙ rw (none, sub-zero) (set_of-same n (λ j. f (0 + j)) f (λ j m. rw zero-add))
+set_ends n k s f h l = h ∙ rw (none, sub-zero) (set_of_same n (λ j. f (0 + j)) f (λ j m. rw zero-add))
   where
     none : k ≡ 0
     none = omega arith

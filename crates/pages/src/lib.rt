@@ -4,6 +4,8 @@
 // them. Each function takes any value of its type, and its contract is an equation with the
 // definition of that name in specs/. The algebra stands in proofs/. What a page is written as, who
 // votes for it and in which round is no business of this crate.
+#![tactic(auto)]
+
 mod line;
 mod page;
 mod racks;

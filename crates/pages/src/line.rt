@@ -3,17 +3,17 @@ ghost use Rattle.std.specs.Prelude.{◌≡◌, cond, not, ◌&&◌, ◌||◌};
 ghost use Rattle.pages.specs.Lines.{reading_in_range, same_reading, is_absent, is_nil, is_reading, holds, mark_in_range, append_mark, prefix_mark, compatible_mark};
 
 // What a rack read from a headset: headset × 65,536 + dose in tenths of a percent.
-#[derive(Drop)]
+#[derive(Clone, Copy)]
 pub struct Reading(pub u32);
 
-#[derive(Drop)]
+#[derive(Clone, Copy)]
 pub enum Mark {
     Absent,
     Nil,
     Reading(Reading),
 }
 
-#[derive(Drop)]
+#[derive(Clone, Copy)]
 pub struct Line {
     pub mark: Mark,
 }

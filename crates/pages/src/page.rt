@@ -6,13 +6,13 @@ ghost use Rattle.pages.specs.Pages.{at, append_of, prefix_of, compatible_of, uni
 use crate::line::{Line, Mark};
 use crate::racks::{RACKS, has};
 
-#[derive(Drop)]
+#[derive(Clone, Copy)]
 pub struct Page {
     pub lines: [Line; RACKS],
 }
 
 // A stored vote is either none or a page.
-#[derive(Drop)]
+#[derive(Clone, Copy)]
 pub struct Vote {
     pub some: bool,
     pub page: Page,

@@ -16,8 +16,8 @@ use Rattle.message_blocks.proofs.Theorems.{Lined}
 use Rattle.row_blocks.specs.Rows as Rows
 use Rattle.row_blocks.proofs.Theorems.{box_kept}
 use Rattle.boxes.specs.Steps.{join_of, take_page_of, take_reading_of}
-use Rattle.boxes.proofs.RulesKept.{join_keeps, take-page_keeps, take-reading_keeps}
-use Rattle.boxes.proofs.Shape.{join_shape, take-page_shape, take-reading_shape}
+use Rattle.boxes.proofs.RulesKept.{join_keeps, take_page_keeps, take_reading_keeps}
+use Rattle.boxes.proofs.Shape.{join_shape, take_page_shape, take_reading_shape}
 use Rattle.acts.specs.declared.step.Step.{Step}
 use Rattle.acts.specs.Acts.{body_of, agent_of, sending, join_act, take_page_act, take_reading_act, act_of}
 use Rattle.hall.specs.Halls.{boxes_at, messages_at, block_at}
@@ -59,36 +59,36 @@ module _ {instance : ℕ} {s : Setup} {count : ℕ} {hall : List ℕ} (g : GoodH
       let shape = join_shape own m own_shape in
       let done =
       sending_done g x f Rows.box _ box box_row a l refl (join_of own m).row keeps.0 shape.0 Sent.one_b _ one_b one_b_post (join_of own m).sent l keeps.1
-      shape.1 b.act-is in
+      shape.1 b.act_is in
       record {
         good = done.good;
         grants = Grants.join a (agent_of message) m l b.posted b.number done.own done.changes;
         pages = λ i e. inl (by_other done.changes i e (box_apart a i));
       }
 
-  pub take-page_stepped : HallGranted g (step_of 9 a j n c cf v) → Stepped instance s count hall (step_of 9 a j n c cf v)
+  pub take_page_stepped : HallGranted g (step_of 9 a j n c cf v) → Stepped instance s count hall (step_of 9 a j n c cf v)
   unfolding act_of take_page_act rows_at agents_for
-  take-page_stepped f =
+  take_page_stepped f =
       let x : Step = step_of 9 a j n c cf v in
       let l : a < s.boxes = exists_agent s count x f.exists in
       let b =
       handed g x f Rows.box (boxes_at + a) Sent.two_s _ two_s two_s_post j (exists_message s count x f.exists refl)
       (λ r m. sending Rows.box Sent.two_b (stamp_for instance s a) (take_page_of r m).refusal (take_page_of r m).row (take_page_of r m).sent) refl in
       let m : TwoS = body_of Sent.two_s message in
-      let keeps = take-page_keeps s a (agent_of message) own m (good_rules Sent.two_s _ two_s_post.laws b.good) b.number in
-      let shape = take-page_shape own m own_shape (length-row most_racks _) in
+      let keeps = take_page_keeps s a (agent_of message) own m (good_rules Sent.two_s _ two_s_post.laws b.good) b.number in
+      let shape = take_page_shape own m own_shape (length-row most_racks _) in
       let done =
       sending_done g x f Rows.box _ box box_row a l refl (take_page_of own m).row keeps.0 shape.0 Sent.two_b _ two_b two_b_post (take_page_of own m).sent l keeps.1
-      shape.1 b.act-is in
+      shape.1 b.act_is in
       record {
         good = done.good;
         grants = Grants.take_page a (agent_of message) m l b.posted b.number done.own done.changes;
         pages = λ i e. inl (by_other done.changes i e (box_apart a i));
       }
 
-  pub take-reading_stepped : HallGranted g (step_of 10 a j n c cf v) → Stepped instance s count hall (step_of 10 a j n c cf v)
+  pub take_reading_stepped : HallGranted g (step_of 10 a j n c cf v) → Stepped instance s count hall (step_of 10 a j n c cf v)
   unfolding act_of take_reading_act rows_at agents_for
-  take-reading_stepped f =
+  take_reading_stepped f =
       let x : Step = step_of 10 a j n c cf v in
       let l : a < s.boxes = exists_agent s count x f.exists in
       let k : ℕ = agent_of message in
@@ -97,12 +97,12 @@ module _ {instance : ℕ} {s : Setup} {count : ℕ} {hall : List ℕ} (g : GoodH
       (λ r m. sending Rows.box Sent.two_b (stamp_for instance s a) (take_reading_of s r k m).refusal (take_reading_of s r k m).row (take_reading_of s r k m).sent) refl in
       let m : TwoA = body_of Sent.two_a message in
       let keeps =
-      take-reading_keeps s a own k m g.setup (good_agent Sent.two_a _ two_a_post.laws b.good) (own_rules_lem l)
+      take_reading_keeps s a own k m g.setup (good_agent Sent.two_a _ two_a_post.laws b.good) (own_rules_lem l)
       (good_rules Sent.two_a _ two_a_post.laws b.good) b.number in
-      let shape = take-reading_shape s own k m own_shape in
+      let shape = take_reading_shape s own k m own_shape in
       let done =
       sending_done g x f Rows.box _ box box_row a l refl (take_reading_of s own k m).row keeps.0 shape.0 Sent.two_b _ two_b two_b_post
-      (take_reading_of s own k m).sent l keeps.1 shape.1 b.act-is in
+      (take_reading_of s own k m).sent l keeps.1 shape.1 b.act_is in
       record {
         good = done.good;
         grants = Grants.take_reading a k m l b.posted b.number done.own done.changes;

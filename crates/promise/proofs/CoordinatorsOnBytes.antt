@@ -110,7 +110,7 @@ module _ {instance : ℕ} {s : Setup} {count : ℕ} {hall : List ℕ} (g : GoodH
       let done =
       silent_done g x f Rows.coordinator _ coordinator coordinator_row a l refl (hear_of own k m).row
       (hear_keeps s a own k m (good_agent Sent.one_b _ one_b_post.laws b.good) (own_rules_lem l) (good_rules Sent.one_b _ one_b_post.laws b.good) b.number)
-      (shaped _ (hear_shape own k m own_shape (length-row most_racks _))) b.act-is in
+      (shaped _ (hear_shape own k m own_shape (length-row most_racks _))) b.act_is in
       record {
         good = done.good;
         grants = Grants.hear a k m l b.posted b.number done.own done.changes;

@@ -141,7 +141,7 @@ module _ {instance : ℕ} {s : Setup} {start : View} where
             after = later;
             are = refl;
             code_is = q.code_is;
-            reading_is = q.reading-is;
+            reading_is = q.reading_is;
             was_granted = q.was_granted;
           }
 
@@ -153,6 +153,6 @@ module _ {instance : ℕ} {s : Setup} {start : View} where
             after = w.after;
             are = ap (λ (l : List Step). x ∷ l) w.are;
             code_is = w.code_is;
-            reading_is = w.reading-is;
+            reading_is = w.reading_is;
             was_granted = w.was_granted;
           }

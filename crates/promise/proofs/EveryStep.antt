@@ -12,7 +12,7 @@ use Rattle.promise.proofs.GoodHalls.{GoodHall}
 use Rattle.promise.proofs.HallNumbers.{HallGranted, hall_granted}
 use Rattle.promise.proofs.Stepped.{step_of, Stepped}
 use Rattle.promise.proofs.RacksOnBytes.{offer_stepped, prepare_stepped, fast_stepped, blank_stepped}
-use Rattle.promise.proofs.BoxesOnBytes.{join_stepped, take-page_stepped, take-reading_stepped}
+use Rattle.promise.proofs.BoxesOnBytes.{join_stepped, take_page_stepped, take_reading_stepped}
 use Rattle.promise.proofs.CoordinatorsOnBytes.{start_stepped, hear_stepped, open_stepped}
 use Rattle.promise.proofs.ReadersOnBytes.{note_vote_stepped, note_blank_stepped, learn_stepped}
 
@@ -27,8 +27,8 @@ module _ {instance : ℕ} {s : Setup} {count : ℕ} {hall : List ℕ} (g : GoodH
   by_code (suc (suc (suc (suc (suc (suc zero)))))) a j n c cf v f = prepare_stepped g a j n c cf v f
   by_code (suc (suc (suc (suc (suc (suc (suc zero))))))) a j n c cf v f = fast_stepped g a j n c cf v f
   by_code (suc (suc (suc (suc (suc (suc (suc (suc zero)))))))) a j n c cf v f = blank_stepped g a j n c cf v f
-  by_code (suc (suc (suc (suc (suc (suc (suc (suc (suc zero))))))))) a j n c cf v f = take-page_stepped g a j n c cf v f
-  by_code (suc (suc (suc (suc (suc (suc (suc (suc (suc (suc zero)))))))))) a j n c cf v f = take-reading_stepped g a j n c cf v f
+  by_code (suc (suc (suc (suc (suc (suc (suc (suc (suc zero))))))))) a j n c cf v f = take_page_stepped g a j n c cf v f
+  by_code (suc (suc (suc (suc (suc (suc (suc (suc (suc (suc zero)))))))))) a j n c cf v f = take_reading_stepped g a j n c cf v f
   by_code (suc (suc (suc (suc (suc (suc (suc (suc (suc (suc (suc zero))))))))))) a j n c cf v f = note_vote_stepped g a j n c cf v f
   by_code (suc (suc (suc (suc (suc (suc (suc (suc (suc (suc (suc (suc zero)))))))))))) a j n c cf v f = note_blank_stepped g a j n c cf v f
   by_code (suc (suc (suc (suc (suc (suc (suc (suc (suc (suc (suc (suc (suc zero))))))))))))) a j n c cf v f = learn_stepped g a j n c cf v f

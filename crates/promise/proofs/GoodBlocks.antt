@@ -45,14 +45,14 @@ same_hall_lem a b i e = and_true (subst (λ (x : Setup). same_setup a.setup x �
 module _ {A : Type 0} (k : Kind A) (Shaped : A → Type 0) (laws : Kept k Shaped) where
   pub kind_is : (block : List ℕ) → Kinds.good k block ≡ true → byte block 2 ≡ k.number
   unfolding encode
-  kind_is block h = ap (λ (l : List ℕ). byte l 2) (laws.writes-back block h)
+  kind_is block h = ap (λ (l : List ℕ). byte l 2) (laws.writes_back block h)
 
   pub good_is : {stamp : Stamp} {block : List ℕ} → Good k stamp block → is_a k block ≡ true
   good_is {block = block} g = eq-eqb _ _ (kind_is block g.good)
 
   -- the record keeps the rules, and its agent exists
   good_kept : {stamp : Stamp} {block : List ℕ} → Good k stamp block → kept k stamp (body_of k block) ≡ true
-  good_kept {block = block} g = subst (λ (x : Stamp). kept k x (body_of k block) ≡ true) g.stamped (laws.to-record block g.good)
+  good_kept {block = block} g = subst (λ (x : Stamp). kept k x (body_of k block) ≡ true) g.stamped (laws.to_record block g.good)
 
   pub good_rules : {stamp : Stamp} {block : List ℕ} → Good k stamp block → k.rules stamp.setup stamp.agent (body_of k block) ≡ true
   good_rules {stamp} g = and_right (stamp_rules stamp (k.agents stamp.setup)) _ (good_kept g)
@@ -74,12 +74,12 @@ module _ {A : Type 0} (k : Kind A) (Shaped : A → Type 0) (laws : Kept k Shaped
     pub encoded_good : Good k (stamp_for instance s agent) (encode k (stamp_for instance s agent) body)
     encoded_good =
         record {
-          good = (laws.reads-back (stamp_for instance s agent) body shaped keeps).0;
-          stamped = ap (λ (v : Stamp × A). v.0) (laws.reads-back (stamp_for instance s agent) body shaped keeps).1;
+          good = (laws.reads_back (stamp_for instance s agent) body shaped keeps).0;
+          stamped = ap (λ (v : Stamp × A). v.0) (laws.reads_back (stamp_for instance s agent) body shaped keeps).1;
         }
 
     pub encoded_body : body_of k (encode k (stamp_for instance s agent) body) ≡ body
-    encoded_body = ap (λ (v : Stamp × A). v.1) (laws.reads-back (stamp_for instance s agent) body shaped keeps).1
+    encoded_body = ap (λ (v : Stamp × A). v.1) (laws.reads_back (stamp_for instance s agent) body shaped keeps).1
 
   -- to and from a block of whatever kind
   module _ {instance : ℕ} {s : Setup} {block : List ℕ} (named : good_as k.number block ≡ Kinds.good k block) where

@@ -137,15 +137,15 @@ pub mild_join : (r : BoxRow) (m : OneA) → Mild (join_refusal r m)
 unfolding join_refusal
 mild_join r m = mild_unless (is_above (order_of m.round r.rnd)) mild_6 mild_0
 
-pub mild_take-page : (r : BoxRow) (m : TwoS) → Mild (take_page_refusal r m)
+pub mild_take_page : (r : BoxRow) (m : TwoS) → Mild (take_page_refusal r m)
 unfolding take_page_refusal
-mild_take-page r m =
+mild_take_page r m =
     mild_unless (not (empty_of m.page)) mild_5
     (mild_unless (may_vote r m.round) mild_6 (mild_unless (not (is_equal (order_of r.vrnd m.round) && r.vval.some)) mild_7 mild_0))
 
-pub mild_take-reading : (r : BoxRow) (m : TwoA) → Mild (take_reading_refusal r m)
+pub mild_take_reading : (r : BoxRow) (m : TwoA) → Mild (take_reading_refusal r m)
 unfolding take_reading_refusal
-mild_take-reading r m = mild_unless (is_reading m.line.mark) mild_5 (mild_unless (may_vote r m.round) mild_6 mild_0)
+mild_take_reading r m = mild_unless (is_reading m.line.mark) mild_5 (mild_unless (may_vote r m.round) mild_6 mild_0)
 
 pub mild_start : (r : CoordinatorRow) (round : Round) → Mild (start_refusal r round)
 unfolding start_refusal

@@ -19,7 +19,7 @@ use Rattle.row_blocks.proofs.Theorems.{coordinator_kept}
 use Rattle.racks.specs.Steps.{offer_of, prepare_of, fast_of, blank_of}
 use Rattle.racks.proofs.GrantedSteps.{prepare_number, fast_number, blank_number}
 use Rattle.boxes.specs.Steps.{join_of, take_page_of, take_reading_of}
-use Rattle.boxes.proofs.GrantedSteps.{join_number, take-page_number, take-reading_number}
+use Rattle.boxes.proofs.GrantedSteps.{join_number, take_page_number, take_reading_number}
 use Rattle.coordinators.specs.Steps.{start_of, hear_of, open_of}
 use Rattle.coordinators.proofs.GrantedSteps.{start_number, hear_number, open_number}
 use Rattle.readers.specs.Notes.{note_vote_of, note_blank_of}
@@ -41,7 +41,7 @@ use Rattle.promise.proofs.OneStep.{two_b_post}
 use Rattle.promise.proofs.Stepped.{step_of}
 use Rattle.promise.proofs.FreshHalls.{fresh_view}
 use Rattle.promise.proofs.PagesOnBytes.{whole}
-use Rattle.promise.proofs.MildNumbers.{Low, Mild, mild_unless, mild_0, low_vote, mild_blank, low_learn, note_vote_number, note_blank_number, mild_prepare, mild_fast, mild_say_blank, mild_join, mild_take-page, mild_take-reading, mild_start, mild_hear, low_open, mild_right, mild_row, mild_both}
+use Rattle.promise.proofs.MildNumbers.{Low, Mild, mild_unless, mild_0, low_vote, mild_blank, low_learn, note_vote_number, note_blank_number, mild_prepare, mild_fast, mild_say_blank, mild_join, mild_take_page, mild_take_reading, mild_start, mild_hear, low_open, mild_right, mild_row, mild_both}
 
 module _ (instance : ℕ) (s : Setup) (range : setup_in_range s ≡ true) (small : instance ≤ 65535) (steps : List Step) where
   abbrev count : ℕ
@@ -97,10 +97,10 @@ module _ (instance : ℕ) (s : Setup) (range : setup_in_range s ≡ true) (small
       (λ is. subst Mild (sym (blank_number a (body_of Rows.rack (block_at hall (racks_at + a))) (body_of Sent.two_a (block_at hall (messages_at + j))))) (mild_say_blank a (body_of Rows.rack (block_at hall (racks_at + a))) (body_of Sent.two_a (block_at hall (messages_at + j)))))
   by_code (suc (suc (suc (suc (suc (suc (suc (suc (suc zero))))))))) a j n c cf v e =
       mild_both Rows.box Sent.two_s (block_at hall (boxes_at + a)) (block_at hall (messages_at + j)) (λ r m. sending Rows.box Sent.two_b (stamp_for instance s a) (take_page_of r m).refusal (take_page_of r m).row (take_page_of r m).sent)
-      (λ is. subst Mild (sym (take-page_number (body_of Rows.box (block_at hall (boxes_at + a))) (body_of Sent.two_s (block_at hall (messages_at + j))))) (mild_take-page (body_of Rows.box (block_at hall (boxes_at + a))) (body_of Sent.two_s (block_at hall (messages_at + j)))))
+      (λ is. subst Mild (sym (take_page_number (body_of Rows.box (block_at hall (boxes_at + a))) (body_of Sent.two_s (block_at hall (messages_at + j))))) (mild_take_page (body_of Rows.box (block_at hall (boxes_at + a))) (body_of Sent.two_s (block_at hall (messages_at + j)))))
   by_code (suc (suc (suc (suc (suc (suc (suc (suc (suc (suc zero)))))))))) a j n c cf v e =
       mild_both Rows.box Sent.two_a (block_at hall (boxes_at + a)) (block_at hall (messages_at + j)) (λ r m. sending Rows.box Sent.two_b (stamp_for instance s a) (take_reading_of s r (agent_of (block_at hall (messages_at + j))) m).refusal (take_reading_of s r (agent_of (block_at hall (messages_at + j))) m).row (take_reading_of s r (agent_of (block_at hall (messages_at + j))) m).sent)
-      (λ is. subst Mild (sym (take-reading_number s (body_of Rows.box (block_at hall (boxes_at + a))) (agent_of (block_at hall (messages_at + j))) (body_of Sent.two_a (block_at hall (messages_at + j))))) (mild_take-reading (body_of Rows.box (block_at hall (boxes_at + a))) (body_of Sent.two_a (block_at hall (messages_at + j)))))
+      (λ is. subst Mild (sym (take_reading_number s (body_of Rows.box (block_at hall (boxes_at + a))) (agent_of (block_at hall (messages_at + j))) (body_of Sent.two_a (block_at hall (messages_at + j))))) (mild_take_reading (body_of Rows.box (block_at hall (boxes_at + a))) (body_of Sent.two_a (block_at hall (messages_at + j)))))
   by_code (suc (suc (suc (suc (suc (suc (suc (suc (suc (suc (suc zero))))))))))) a j n c cf v e =
       mild_both Rows.reader Sent.two_b (block_at hall (readers_at + a)) (block_at hall (messages_at + j)) (λ r m. silent Rows.reader (stamp_for instance s a) (note_vote_of r (agent_of (block_at hall (messages_at + j))) m).refusal (note_vote_of r (agent_of (block_at hall (messages_at + j))) m).row)
       (λ is.

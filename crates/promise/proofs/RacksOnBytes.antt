@@ -83,7 +83,7 @@ module _ {instance : ℕ} {s : Setup} {count : ℕ} {hall : List ℕ} (g : GoodH
       let m : TwoS = body_of Sent.two_s message in
       let done =
       silent_done g x f Rows.rack Any rack rack_row a l refl (prepare_of a own m).row
-      (prepare_keeps s a (agent_of message) own m g.setup l (good_rules Sent.two_s _ two_s_post.laws b.good) b.number) tt b.act-is in
+      (prepare_keeps s a (agent_of message) own m g.setup l (good_rules Sent.two_s _ two_s_post.laws b.good) b.number) tt b.act_is in
       record {
         good = done.good;
         grants = Grants.prepare a (agent_of message) m l b.posted b.number done.own done.changes;
@@ -102,7 +102,7 @@ module _ {instance : ℕ} {s : Setup} {count : ℕ} {hall : List ℕ} (g : GoodH
       let keeps = fast_keeps s a (agent_of message) own m (own_rules_lem l) (good_rules Sent.propose _ propose_post.laws b.good) b.number in
       let done =
       sending_done g x f Rows.rack Any rack rack_row a l refl (fast_of a own m).row keeps.0 tt Sent.two_a Any two_a two_a_post (fast_of a own m).sent l keeps.1 tt
-      b.act-is in
+      b.act_is in
       record {
         good = done.good;
         grants = Grants.fast a (agent_of message) m l b.posted b.number done.own done.changes;
@@ -121,7 +121,7 @@ module _ {instance : ℕ} {s : Setup} {count : ℕ} {hall : List ℕ} (g : GoodH
       let keeps = blank_keeps s a own m (own_rules_lem l) b.number in
       let done =
       sending_done g x f Rows.rack Any rack rack_row a l refl (blank_of a own m).row keeps.0 tt Sent.two_a Any two_a two_a_post (blank_of a own m).sent l keeps.1 tt
-      b.act-is in
+      b.act_is in
       record {
         good = done.good;
         grants = Grants.blank a (agent_of message) m l b.posted b.number done.own done.changes;

@@ -97,7 +97,7 @@ module _ {instance : ℕ} {s : Setup} {count : ℕ} {hall : List ℕ} (g : GoodH
       let done =
       silent_done g x f Rows.reader _ reader reader_row a l refl (note_vote_of own k m).row
       (note_vote_keeps s a own k m (good_agent Sent.two_b _ two_b_post.laws b.good) (own_rules_lem l) (good_rules Sent.two_b _ two_b_post.laws b.good) b.number)
-      (shaped _ (note_vote_shape own k m own_shape) (note_vote_lined own k m own_held (length-row most_racks _) b.number)) b.act-is in
+      (shaped _ (note_vote_shape own k m own_shape) (note_vote_lined own k m own_held (length-row most_racks _) b.number)) b.act_is in
       record {
         good = done.good;
         grants = Grants.note_vote a k m l b.posted b.number done.own done.changes;
@@ -119,7 +119,7 @@ module _ {instance : ℕ} {s : Setup} {count : ℕ} {hall : List ℕ} (g : GoodH
       let done =
       silent_done g x f Rows.reader _ reader reader_row a l refl (note_blank_of own k m).row
       (note_blank_keeps s a own k m (good_agent Sent.two_a _ two_a_post.laws b.good) (own_rules_lem l) (good_rules Sent.two_a _ two_a_post.laws b.good) b.number)
-      (shaped _ (note_blank_shape own k m own_shape) (note_blank_lined own k m own_held b.number)) b.act-is in
+      (shaped _ (note_blank_shape own k m own_shape) (note_blank_lined own k m own_held b.number)) b.act_is in
       record {
         good = done.good;
         grants = Grants.note_blank a k m l b.posted b.number done.own done.changes;

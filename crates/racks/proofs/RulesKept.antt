@@ -44,8 +44,8 @@ pub prepare_keeps : (s : Setup) (agent sender : ℕ) (row : RackRow) (m : TwoS) 
 unfolding two_s_rules
 prepare_keeps s agent sender row m good l rules h =
     row_good s agent (prepare_of agent row m).row
-    (ap (round_in_range s) facts.prnd-is ∙ own_range s sender m.round (and_left _ (open_rules s m.page) rules))
-    (ap mark_in_range facts.pval-is ∙ line_in_range (empty_of m.page))
+    (ap (round_in_range s) facts.prnd_is ∙ own_range s sender m.round (and_left _ (open_rules s m.page) rules))
+    (ap mark_in_range facts.pval_is ∙ line_in_range (empty_of m.page))
   where
     facts : PrepareGranted agent row m
     facts = prepare_granted agent row m h
@@ -71,7 +71,7 @@ pub fast_keeps : (s : Setup) (agent sender : ℕ) (row : RackRow) (m : Propose) 
 unfolding propose_rules
 fast_keeps s agent sender row m rules good h = (
   ap (rack_rules s agent) facts.row_is ∙ said_keeps s agent row (reads m.reading) rules good,
-  ap (two_a_rules s agent) facts.sent_is ∙ saying_keeps s agent row (reads m.reading) rules good facts.in-cf refl,
+  ap (two_a_rules s agent) facts.sent_is ∙ saying_keeps s agent row (reads m.reading) rules good facts.in_cf refl,
 )
   where
     facts : FastGranted agent row m
@@ -82,7 +82,7 @@ pub blank_keeps : (s : Setup) (agent : ℕ) (row : RackRow) (m : TwoA) → rack_
     (rack_rules s agent (blank_of agent row m).row ≡ true) × (two_a_rules s agent (blank_of agent row m).sent ≡ true)
 blank_keeps s agent row m rules h = (
   ap (rack_rules s agent) facts.row_is ∙ said_keeps s agent row Nil rules refl,
-  ap (two_a_rules s agent) facts.sent_is ∙ saying_keeps s agent row Nil rules refl facts.in-cf refl,
+  ap (two_a_rules s agent) facts.sent_is ∙ saying_keeps s agent row Nil rules refl facts.in_cf refl,
 )
   where
     facts : BlankGranted agent row m

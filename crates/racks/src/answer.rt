@@ -2,14 +2,14 @@
 use records::{RackRow, TwoA};
 
 // A step that sends nothing.
-#[derive(Drop)]
+#[derive(Clone, Copy)]
 pub struct Prepared {
     pub refusal: u8,
     pub row: RackRow,
 }
 
 // A step that sends 2A; where it is refused, `sent` holds no message.
-#[derive(Drop)]
+#[derive(Clone, Copy)]
 pub struct Spoken {
     pub refusal: u8,
     pub row: RackRow,

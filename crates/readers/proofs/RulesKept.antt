@@ -60,8 +60,8 @@ parts_reader : (s : Setup) (agent : ℕ) (r : ReaderRow) → ReaderParts s r →
 unfolding reader_rules all_held all_blanks
 parts_reader s agent r p =
     and_true
-    (and_true (and_true p.page-within (ap not p.not-trivial)) (all_true most_boxes (λ b. held_rules s b (held_at r b)) p.held-rules))
-    (all_true most_racks (λ k. blank_rules s k (blank_at r k)) p.blank-rules)
+    (and_true (and_true p.page_within (ap not p.not_trivial)) (all_true most_boxes (λ b. held_rules s b (held_at r b)) p.held_rules_lem))
+    (all_true most_racks (λ k. blank_rules s k (blank_at r k)) p.blank_rules_lem)
 
 -- 11 note vote, of a box of the hall
 pub note_vote_keeps : (s : Setup) (agent : ℕ) (r : ReaderRow) (box : ℕ) (m : TwoB) → box < s.boxes → reader_rules s agent r ≡ true → two_b_rules s box m ≡ true →
@@ -71,10 +71,10 @@ note_vote_keeps s agent r box m l rules good h =
     ap (reader_rules s agent) (note_vote_granted r box m h).row_is ∙
     parts_reader s agent (note_vote_row r box m)
     (record {
-      page_within = old.page-within;
-      not_trivial = old.not-trivial;
-      held_rules_lem = λ b lb. ⊎_elim (λ e. ap (held_rules s b) e ∙ old.held-rules b lb) (λ e. ap (held_rules s b) e.1 ∙ put b e.0) (note_vote_held r box m b);
-      blank_rules_lem = old.blank-rules;
+      page_within = old.page_within;
+      not_trivial = old.not_trivial;
+      held_rules_lem = λ b lb. ⊎_elim (λ e. ap (held_rules s b) e ∙ old.held_rules_lem b lb) (λ e. ap (held_rules s b) e.1 ∙ put b e.0) (note_vote_held r box m b);
+      blank_rules_lem = old.blank_rules_lem;
     })
   where
     old : ReaderParts s r
@@ -96,10 +96,10 @@ note_blank_keeps s agent r rack m l rules good h =
     ap (reader_rules s agent) (note_blank_granted r rack m h).row_is ∙
     parts_reader s agent (note_blank_row r rack m)
     (record {
-      page_within = old.page-within;
-      not_trivial = old.not-trivial;
-      held_rules_lem = old.held-rules;
-      blank_rules_lem = λ k lk. ⊎_elim (λ e. ap (blank_rules s k) e ∙ old.blank-rules k lk) (λ e. ap (blank_rules s k) e.1 ∙ put k e.0) (note_blank_held r rack m k);
+      page_within = old.page_within;
+      not_trivial = old.not_trivial;
+      held_rules_lem = old.held_rules_lem;
+      blank_rules_lem = λ k lk. ⊎_elim (λ e. ap (blank_rules s k) e ∙ old.blank_rules_lem k lk) (λ e. ap (blank_rules s k) e.1 ∙ put k e.0) (note_blank_held r rack m k);
     })
   where
     old : ReaderParts s r
@@ -133,7 +133,7 @@ extended_within s r round b p lb h =
         and_right (ltb b s.boxes && round_in_range s (held_at r b).round) _
         (and_left _ (valued_of (held_at r b).page)
         (subst (λ (x : Bool). cond x (ltb b s.boxes && round_in_range s (held_at r b).round && page_rules s (held_at r b).page && valued_of (held_at r b).page) (nothing_held (held_at r b)) ≡ true)
-        (held_at_round s r round b h).filled (p.held-rules b lb)))
+        (held_at_round s r round b h).filled (p.held_rules_lem b lb)))
 
     outside : (k : ℕ) → racks_below s.racks k ≡ false → over k ≡ false
     outside k o = ⊎_elim (λ e. and_false_left (ltb k most_racks) (not_blank (ltb-true k most_racks e))) (λ e. and_false_right (blank_in r round k) e) (decided (ltb k most_racks))
@@ -146,7 +146,7 @@ extended_within s r round b p lb h =
             (sym
             (and_left (ltb k s.racks) _
             (subst (λ (x : Bool). cond x (ltb k s.racks && round_in_range s (blank_at r k).round) (same_round (blank_at r k).round no_round) ≡ true)
-            (blank_at_round r round k e).filled (p.blank-rules k l))) ∙
+            (blank_at_round r round k e).filled (p.blank_rules_lem k l))) ∙
             o))
 
 -- a line as a good page has it: none of a rack that the hall has not, and a reading in range
@@ -165,9 +165,9 @@ learn_keeps s agent r round a rules learns h =
     parts_reader s agent (with_page r facts.w)
     (record {
       page_within = lines_within (racks_below s.racks) facts.w (λ k l. (line k l).0) (λ k l. (line k l).1);
-      not_trivial = facts.not-trivial;
-      held_rules_lem = old.held-rules;
-      blank_rules_lem = old.blank-rules;
+      not_trivial = facts.not_trivial;
+      held_rules_lem = old.held_rules_lem;
+      blank_rules_lem = old.blank_rules_lem;
     })
   where
     old : ReaderParts s r
@@ -190,5 +190,5 @@ learn_keeps s agent r round a rules learns h =
 
         present : is_absent (at facts.w k) ≡ false → GoodLine s k (at facts.w k)
         present e =
-            ⊎_elim (λ own. subst (GoodLine s k) own (good_line s r.page old.page-within k l)) (of_majority k (at facts.w k) l)
+            ⊎_elim (λ own. subst (GoodLine s k) own (good_line s r.page old.page_within k l)) (of_majority k (at facts.w k) l)
             (learnt_lines s r round facts.w facts.joins k l e)

@@ -1,7 +1,7 @@
 // What a step of a reader answers: readers send nothing.
 use records::ReaderRow;
 
-#[derive(Drop)]
+#[derive(Clone, Copy)]
 pub struct Noted {
     pub refusal: u8,
     pub row: ReaderRow,

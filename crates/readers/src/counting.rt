@@ -18,20 +18,20 @@ use rounds::{Round, Setup};
 
 // How many boxes are held at exactly the round, and their pages, Nil-extended; the empty page for a
 // box that is not.
-#[derive(Drop)]
+#[derive(Clone, Copy)]
 struct HeldPages {
     boxes: u8,
     pages: [Page; BOXES],
 }
 
 // The lines that those pages have for one rack.
-#[derive(Drop)]
+#[derive(Clone, Copy)]
 struct Column {
     lines: [Line; BOXES],
 }
 
 // The refusal, and the page to go on with.
-#[derive(Drop)]
+#[derive(Clone, Copy)]
 struct Learnt {
     refusal: u8,
     page: Page,

@@ -4,6 +4,8 @@
 // refusal (5 to 9) and the new row, exactly as the definition of that step in specs/ says; learn's
 // contract is document 01's property over majorities, and the code counts. The rules of rows and
 // messages are the records' business, blocks and places the hall's.
+#![tactic(auto)]
+
 mod answer;
 mod counting;
 mod learning;

@@ -8,19 +8,19 @@ use pages::{Line, Page, Reading, Vote, has};
 use rounds::{Round, Setup};
 
 // A rack offers a reading.
-#[derive(Drop)]
+#[derive(Clone, Copy)]
 pub struct Propose {
     pub reading: Reading,
 }
 
 // A coordinator starts a round.
-#[derive(Drop)]
+#[derive(Clone, Copy)]
 pub struct OneA {
     pub round: Round,
 }
 
 // A box joins a round and tells its last vote.
-#[derive(Drop)]
+#[derive(Clone, Copy)]
 pub struct OneB {
     pub round: Round,
     pub vrnd: Round,
@@ -28,21 +28,21 @@ pub struct OneB {
 }
 
 // A coordinator opens its round with a page.
-#[derive(Drop)]
+#[derive(Clone, Copy)]
 pub struct TwoS {
     pub round: Round,
     pub page: Page,
 }
 
 // A rack proposes its line.
-#[derive(Drop)]
+#[derive(Clone, Copy)]
 pub struct TwoA {
     pub round: Round,
     pub line: Line,
 }
 
 // A box tells its vote.
-#[derive(Drop)]
+#[derive(Clone, Copy)]
 pub struct TwoB {
     pub round: Round,
     pub page: Page,

@@ -12,12 +12,12 @@ use rounds::{Round, Setup};
 pub const BOXES: usize = 5;
 
 // How many messages the post holds.
-#[derive(Drop)]
+#[derive(Clone, Copy)]
 pub struct Head {
     pub count: u16,
 }
 
-#[derive(Drop)]
+#[derive(Clone, Copy)]
 pub struct CoordinatorRow {
     pub crnd: Round,
     pub cval: Vote,
@@ -25,21 +25,21 @@ pub struct CoordinatorRow {
     pub heard: [Heard; BOXES],
 }
 
-#[derive(Drop)]
+#[derive(Clone, Copy)]
 pub struct BoxRow {
     pub rnd: Round,
     pub vrnd: Round,
     pub vval: Vote,
 }
 
-#[derive(Drop)]
+#[derive(Clone, Copy)]
 pub struct RackRow {
     pub prnd: Round,
     // Absent where pval is none.
     pub pval: Line,
 }
 
-#[derive(Drop)]
+#[derive(Clone, Copy)]
 pub struct ReaderRow {
     pub page: Page,
     // One slot per box.

@@ -8,7 +8,7 @@ use pages::{Page, Vote};
 use rounds::{Number, Round, Setup};
 
 // What a coordinator heard of one box.
-#[derive(Drop)]
+#[derive(Clone, Copy)]
 pub struct Heard {
     pub filled: bool,
     pub vrnd: Round,
@@ -16,7 +16,7 @@ pub struct Heard {
 }
 
 // What a reader holds of one box.
-#[derive(Drop)]
+#[derive(Clone, Copy)]
 pub struct Held {
     pub filled: bool,
     pub round: Round,
@@ -24,7 +24,7 @@ pub struct Held {
 }
 
 // In which round a reader holds one rack blank.
-#[derive(Drop)]
+#[derive(Clone, Copy)]
 pub struct Blank {
     pub filled: bool,
     pub round: Round,

@@ -5,7 +5,7 @@ ghost use Rattle.records.specs.Rules.{stamp_rules};
 use below::both;
 use rounds::{Instance, Setup};
 
-#[derive(Drop)]
+#[derive(Clone, Copy)]
 pub struct Stamp {
     pub instance: Instance,
     pub setup: Setup,

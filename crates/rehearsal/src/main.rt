@@ -3,6 +3,8 @@
 // This only moves bytes. What is printed is decided by the crate rehearsing, whose contracts and
 // theorem `rehearsal-in-pieces` say that over all pieces it is the text of document 01. Memory is
 // fixed: the hall, one piece of input, and room for what that can print.
+#![tactic(auto)]
+
 ghost use Rattle.std.specs.Prelude.{◌≡◌, length};
 
 use hall::HALL;
@@ -14,7 +16,7 @@ const PIECE: usize = 32768;
 
 const ROOM: usize = 720896;
 
-#[derive(Drop)]
+#[derive(Clone, Copy)]
 struct Taken {
     rehearsal: Rehearsal,
     more: bool,

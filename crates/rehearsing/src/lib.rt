@@ -4,6 +4,8 @@
 // the input in pieces of any size and keep between them the hall's bytes and a few numbers;
 // proofs/InPieces.antt says that what they print is that text. Where the pieces come from and go to
 // is the program's business.
+#![tactic(auto)]
+
 mod pages_out;
 mod playing;
 mod rehearsal;

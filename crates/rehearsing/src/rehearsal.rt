@@ -6,7 +6,7 @@ use lines::Scan;
 
 // Before the setup line; after a setup that was granted, with its readers and racks; after one that
 // was refused or unreadable, when nothing more is read.
-#[derive(Drop)]
+#[derive(Clone, Copy)]
 pub enum Stage {
     Setup,
     Steps { readers: u32, racks: u32 },
@@ -14,7 +14,7 @@ pub enum Stage {
 }
 
 // How far the rehearsal is, what has been read of the open line, and whether any byte of it has.
-#[derive(Drop)]
+#[derive(Clone, Copy)]
 pub struct Rehearsal {
     pub stage: Stage,
     pub scan: Scan,
@@ -22,14 +22,14 @@ pub struct Rehearsal {
 }
 
 // The rehearsal after a turn, and the place behind what it printed.
-#[derive(Drop)]
+#[derive(Clone, Copy)]
 pub struct Played {
     pub rehearsal: Rehearsal,
     pub to: usize,
 }
 
 // The same after a part of a line, and the place of the input behind it.
-#[derive(Drop)]
+#[derive(Clone, Copy)]
 pub(crate) struct Part {
     pub rehearsal: Rehearsal,
     pub to: usize,

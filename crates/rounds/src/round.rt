@@ -7,11 +7,11 @@ use crate::setup::{Setup, some_racks};
 use below::{both, either};
 
 // A round's n.
-#[derive(Drop)]
+#[derive(Clone, Copy)]
 pub struct Number(pub u16);
 
 // (n, c, cf): number, coordinator, and the racks that may speak, as bits.
-#[derive(Drop)]
+#[derive(Clone, Copy)]
 pub struct Round {
     pub n: Number,
     pub c: u8,

@@ -5,11 +5,11 @@ ghost use Rattle.rounds.specs.Setups.{one_to, some_racks, setup_of, setup_in_ran
 use below::both;
 
 // An instance number, 0 to 65,535.
-#[derive(Drop)]
+#[derive(Clone, Copy)]
 pub struct Instance(pub u16);
 
 // P racks, A boxes, C coordinators, L readers, and round Zero's c and cf.
-#[derive(Drop)]
+#[derive(Clone, Copy)]
 pub struct Setup {
     pub racks: u8,
     pub boxes: u8,

@@ -23,7 +23,7 @@ const VVAL: usize = 18;
 
 const END: usize = 59;
 
-#[derive(Drop)]
+#[derive(Clone, Copy)]
 pub struct BoxRowRead {
     pub refusal: u8,
     pub stamp: Stamp,

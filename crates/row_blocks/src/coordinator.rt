@@ -23,7 +23,7 @@ const HEARD: usize = 55;
 
 const END: usize = 285;
 
-#[derive(Drop)]
+#[derive(Clone, Copy)]
 pub struct CoordinatorRowRead {
     pub refusal: u8,
     pub stamp: Stamp,

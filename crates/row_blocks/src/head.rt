@@ -16,7 +16,7 @@ const COUNT: usize = 10;
 
 const END: usize = 12;
 
-#[derive(Drop)]
+#[derive(Clone, Copy)]
 pub struct HeadRead {
     pub refusal: u8,
     pub stamp: Stamp,

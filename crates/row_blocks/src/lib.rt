@@ -3,6 +3,8 @@
 //
 // A kind is one line of specs/Rows.antt; what makes a block good is said once, in the crate blocks.
 // What the rows mean, and who may change them, is no business here.
+#![tactic(auto)]
+
 mod box_row;
 mod coordinator;
 mod head;

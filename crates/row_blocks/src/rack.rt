@@ -21,7 +21,7 @@ const PVAL: usize = 14;
 
 const END: usize = 19;
 
-#[derive(Drop)]
+#[derive(Clone, Copy)]
 pub struct RackRowRead {
     pub refusal: u8,
     pub stamp: Stamp,

@@ -22,7 +22,7 @@ const BLANKS: usize = 275;
 
 const END: usize = 315;
 
-#[derive(Drop)]
+#[derive(Clone, Copy)]
 pub struct ReaderRowRead {
     pub refusal: u8,
     pub stamp: Stamp,

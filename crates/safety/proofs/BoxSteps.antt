@@ -27,7 +27,7 @@ use Rattle.records.specs.declared.messages.TwoA.{TwoA}
 use Rattle.records.specs.declared.rows.BoxRow.{BoxRow}
 use Rattle.records.specs.Rules.{box_rules, one_a_rules, two_s_rules, two_a_rules}
 use Rattle.boxes.specs.Steps.{may_vote, voted, telling, join_of, take_page_of, take_reading_of, take_reading_page}
-use Rattle.boxes.proofs.GrantedSteps.{JoinGranted, join_granted, may_up_to, may_no_clash, TakePageGranted, take-page_granted, TakeReadingGranted, take-reading_granted, first_reading, next_reading}
+use Rattle.boxes.proofs.GrantedSteps.{JoinGranted, join_granted, may_up_to, may_no_clash, TakePageGranted, take_page_granted, TakeReadingGranted, take_reading_granted, first_reading, next_reading}
 use Rattle.history.specs.History.{History}
 use Rattle.history.specs.Moves.{join, vote, reading_vote}
 use Rattle.history.proofs.Updates.{put_same, put_other, put₂_same, put₂_other}
@@ -36,7 +36,7 @@ use Rattle.history.proofs.VoteMoves.{vote_grows, vote_page_sound, vote_reading_s
 use Rattle.safety.proofs.TrueMessages.{one_b, two_s, two_a, two_b, Says}
 use Rattle.safety.proofs.TrueRows.{NewestVote, BoxTrue}
 use Rattle.safety.proofs.Moved.{box, SoundHall, Stepped}
-use Rattle.safety.proofs.InRange.{small, lower_number, same_number, rnd_range, vrnd_range, one_a-range, two_s-range, two_a-range, two_a-in-cf}
+use Rattle.safety.proofs.InRange.{small, lower_number, same_number, rnd_range, vrnd_range, one_a_range, two_s_range, two_a_range, two_a_in_cf}
 
 module _ (s : Setup) {H : History} (S : SoundHall s H) (good : setup_in_range s ≡ true) (b : ℕ) (row : BoxRow) (t : BoxTrue H b row)
     (rules : box_rules s b row ≡ true) where
@@ -87,7 +87,7 @@ module _ (s : Setup) {H : History} (S : SoundHall s H) (good : setup_in_range s 
       facts = join_granted row m h
 
       above : key row.rnd < r
-      above = lower_number s good row.rnd m.round (rnd_range s b row rules) (one_a-range s sender m rules') facts.above
+      above = lower_number s good row.rnd m.round (rnd_range s b row rules) (one_a_range s sender m rules') facts.above
 
       low : H.ballot b ≤ r
       low = omega (arith, above, t.ballot)
@@ -145,27 +145,27 @@ module _ (s : Setup) {H : History} (S : SoundHall s H) (good : setup_in_range s 
         now = p ∷ H.votes b r
 
   -- step 9
-  pub take-page_moves : (sender : ℕ) (m : TwoS) → two_s_rules s sender m ≡ true → Says H (two_s sender m) → (take_page_of row m).refusal ≡ granted →
+  pub take_page_moves : (sender : ℕ) (m : TwoS) → two_s_rules s sender m ≡ true → Says H (two_s sender m) → (take_page_of row m).refusal ≡ granted →
       Stepped s (box b) H.offers H (λ H. BoxTrue H b (take_page_of row m).row) (λ H. Says H (two_b b (take_page_of row m).sent))
-  take-page_moves sender m rules' x h =
+  take_page_moves sender m rules' x h =
       rw (facts.row_is, facts.sent_is)
       (votes m.round range facts.may m.page
-      (vote_page_sound b (key m.round) m.page (x.fixed-opened facts.some-line) (ballot_up_to m.round range facts.may) S))
+      (vote_page_sound b (key m.round) m.page (x.fixed_opened facts.some_line) (ballot_up_to m.round range facts.may) S))
     where
       range : round_in_range s m.round ≡ true
-      range = two_s-range s sender m rules'
+      range = two_s_range s sender m rules'
 
       facts : TakePageGranted row m
-      facts = take-page_granted row m h
+      facts = take_page_granted row m h
 
   -- step 10, with a 2A of any rack of the hall
   module _ (k : ℕ) (m : TwoA) (low : k < s.racks) (rules' : two_a_rules s k m ≡ true) (x : Says H (two_a k m))
       (h : (take_reading_of s row k m).refusal ≡ granted) where
     facts : TakeReadingGranted s row k m
-    facts = take-reading_granted s row k m h
+    facts = take_reading_granted s row k m h
 
     range : round_in_range s m.round ≡ true
-    range = two_a-range s k m rules'
+    range = two_a_range s k m rules'
 
     -- the page is the history's: the first vote of the round, or the newest with the reading appended
     page_is : (v : Reading) → m.line.mark ≡ reads v →
@@ -199,10 +199,10 @@ module _ (s : Setup) {H : History} (S : SoundHall s H) (good : setup_in_range s 
                 let now : H.votes b (key m.round) ≡ row.vval.page ∷ w.older = subst (λ (r : ℕ). H.votes b r ≡ row.vval.page ∷ w.older) level w.newest in
                 next_reading s row k m same e ∙ ap (append_of row.vval.page k) spoke ∙ sym (ap the_page now)
 
-    pub take-reading_moves :
+    pub take_reading_moves :
         Stepped s (box b) H.offers H (λ H. BoxTrue H b (take_reading_of s row k m).row) (λ H. Says H (two_b b (take_reading_of s row k m).sent))
     unfolding facts range
-    take-reading_moves = rw (facts.row_is, facts.sent_is) (votes m.round range facts.may (take_reading_page s row k m) sound)
+    take_reading_moves = rw (facts.row_is, facts.sent_is) (votes m.round range facts.may (take_reading_page s row k m) sound)
       where
         v : Reading
         v = facts.reading.0
@@ -213,5 +213,5 @@ module _ (s : Setup) {H : History} (S : SoundHall s H) (good : setup_in_range s 
         sound : SoundHall s (vote H b (key m.round) (take_reading_page s row k m))
         sound =
             subst (λ (p : Page). SoundHall s (vote H b (key m.round) p)) (sym (page_is v spoke))
-            (vote_reading_sound b (key m.round) m.round.cf k v x.opened low (two_a-in-cf s k m rules') (x.said ∙ spoke)
+            (vote_reading_sound b (key m.round) m.round.cf k v x.opened low (two_a_in_cf s k m rules') (x.said ∙ spoke)
             (ballot_up_to m.round range facts.may) S)

@@ -73,22 +73,22 @@ module _ (s : Setup) (good : setup_in_range s ≡ true) where
 
 -- the rounds of rows and messages
 module _ (s : Setup) (agent : ℕ) where
-  pub one_a-range : (m : OneA) → one_a_rules s agent m ≡ true → round_in_range s m.round ≡ true
+  pub one_a_range : (m : OneA) → one_a_rules s agent m ≡ true → round_in_range s m.round ≡ true
   unfolding one_a_rules
-  one_a-range m h = own_range s agent m.round h
+  one_a_range m h = own_range s agent m.round h
 
-  pub two_s-range : (m : TwoS) → two_s_rules s agent m ≡ true → round_in_range s m.round ≡ true
+  pub two_s_range : (m : TwoS) → two_s_rules s agent m ≡ true → round_in_range s m.round ≡ true
   unfolding two_s_rules
-  two_s-range m h = own_range s agent m.round (and_left _ _ h)
+  two_s_range m h = own_range s agent m.round (and_left _ _ h)
 
-  pub two_a-range : (m : TwoA) → two_a_rules s agent m ≡ true → round_in_range s m.round ≡ true
+  pub two_a_range : (m : TwoA) → two_a_rules s agent m ≡ true → round_in_range s m.round ≡ true
   unfolding two_a_rules
-  two_a-range m h = and_left _ _ (and_left _ _ (and_left _ _ h))
+  two_a_range m h = and_left _ _ (and_left _ _ (and_left _ _ h))
 
   -- a 2A rack is in cf
-  pub two_a-in-cf : (m : TwoA) → two_a_rules s agent m ≡ true → has m.round.cf agent ≡ true
+  pub two_a_in_cf : (m : TwoA) → two_a_rules s agent m ≡ true → has m.round.cf agent ≡ true
   unfolding two_a_rules
-  two_a-in-cf m h = and_right (round_in_range s m.round && mark_in_range m.line.mark) _ (and_left _ _ h)
+  two_a_in_cf m h = and_right (round_in_range s m.round && mark_in_range m.line.mark) _ (and_left _ _ h)
 
   pub rack_range : (r : RackRow) → rack_rules s agent r ≡ true → round_in_range s r.prnd ≡ true
   unfolding rack_rules

@@ -30,7 +30,7 @@ use Rattle.history.proofs.OfferJoinSay.{offer_grows, offer_sound, say_grows, say
 use Rattle.safety.proofs.TrueMessages.{propose, two_s, two_a, Says}
 use Rattle.safety.proofs.TrueRows.{RackTrue}
 use Rattle.safety.proofs.Moved.{rack, SoundHall, Stepped, Silent, still}
-use Rattle.safety.proofs.InRange.{lower_number, rack_range, two_s-range}
+use Rattle.safety.proofs.InRange.{lower_number, rack_range, two_s_range}
 
 module _ (s : Setup) {H : History} (S : SoundHall s H) (k : ℕ) (row : RackRow) (t : RackTrue H k row) where
   -- step 1
@@ -64,16 +64,16 @@ module _ (s : Setup) {H : History} (S : SoundHall s H) (k : ℕ) (row : RackRow)
 
       above : key row.prnd < key (prepare_of k row m).row.prnd
       above =
-          rw facts.prnd-is (lower_number s good row.prnd m.round (rack_range s k row rules) (two_s-range s sender m rules') facts.above)
+          rw facts.prnd_is (lower_number s good row.prnd m.round (rack_range s k row rules) (two_s_range s sender m rules') facts.above)
 
       -- a page that opens a round has a line for every rack
       no_page : empty_of m.page ≡ false → at m.page k ≡ Absent → ⊥
       no_page e a =
-          let w : Whole s.racks H.offers m.page = subst (Grounded s.racks H.offers) (x.fixed-opened e) (S.grounded (key m.round)) in
+          let w : Whole s.racks H.offers m.page = subst (Grounded s.racks H.offers) (x.fixed_opened e) (S.grounded (key m.round)) in
           absent_or_present a (w.complete k low)
 
       opened : (b : Bool) → empty_of m.page ≡ b → cond b Absent (at m.page k) ≡ Absent → H.opened (key m.round) ≡ free m.round.cf
-      opened true e a = x.free-opened e
+      opened true e a = x.free_opened e
       opened false e a = absurd (no_page e a)
 
       prepared : RackTrue H k (prepare_of k row m).row
@@ -83,8 +83,8 @@ module _ (s : Setup) {H : History} (S : SoundHall s H) (k : ℕ) (row : RackRow)
             unsaid = λ e. t.ahead _ above;
             opened =
                 λ e.
-                subst (λ (r : Round). H.opened (key r) ≡ free r.cf) (sym facts.prnd-is)
-                (opened (empty_of m.page) refl (sym facts.pval-is ∙ e));
+                subst (λ (r : Round). H.opened (key r) ≡ free r.cf) (sym facts.prnd_is)
+                (opened (empty_of m.page) refl (sym facts.pval_is ∙ e));
           }
 
   -- a rack with no pval speaks, once, in its round

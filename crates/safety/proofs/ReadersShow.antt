@@ -29,7 +29,7 @@ pub record Seen (s : Setup) (H : History) (p : Page) : Type 1 where
   pub page_is : (view.readers reader).page ≡ p
 
 seen_shown : (s : Setup) {H : History} (p : Page) → Seen s H p → Shown s H p
-seen_shown s p w = subst (Shown s _) w.page-is (shown_stays s w.until _ (w.kept.readers w.reader w.exists).shown)
+seen_shown s p w = subst (Shown s _) w.page_is (shown_stays s w.until _ (w.kept.readers w.reader w.exists).shown)
 
 module _ (s : Setup) {H : History} (S : SoundHall s H) where
   -- two readers' pages, at any two moments, never differ on a line that both have

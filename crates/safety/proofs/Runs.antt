@@ -37,7 +37,7 @@ module _ (s : Setup) {H : History} {start : View} (kept : Kept s H start) where
       }
 
   -- what readers show at a moment is seen from the end of the run
-  pub moment_seen : {hall moment : View} {offered : List Offer} {run : Run s start hall offered} → Moment s start moment hall offered run → (i : ℕ) →
+  pub moment_seen : {moment hall : View} {offered : List Offer} {run : Run s start hall offered} → Moment s start moment hall offered run → (i : ℕ) →
       i < s.readers → Seen s (run_keeps run).after (moment.readers i).page
   unfolding run_keeps
   moment_seen {run = run} last i l =
@@ -52,7 +52,7 @@ module _ (s : Setup) {H : History} {start : View} (kept : Kept s H start) where
         until = grows_trans w.until (step_keeps s rules (run_keeps run).kept step).grows;
         reader = w.reader;
         exists = w.exists;
-        page_is = w.page-is;
+        page_is = w.page_is;
       }
 
 -- from any moment on, pages only gain lines

@@ -27,7 +27,7 @@ use Rattle.safety.proofs.TrueRows.{CoordinatorTrue, BoxTrue, RackTrue, ReaderTru
 use Rattle.safety.proofs.Moved.{Agent, coordinator, box, rack, reader, Stepped}
 use Rattle.safety.proofs.InRange.{small_coordinator}
 use Rattle.safety.proofs.RackSteps.{offer_moves, prepare_moves, fast_moves, blank_moves}
-use Rattle.safety.proofs.BoxSteps.{join_moves, take-page_moves, take-reading_moves}
+use Rattle.safety.proofs.BoxSteps.{join_moves, take_page_moves, take_reading_moves}
 use Rattle.safety.proofs.CoordinatorSteps.{start_moves, hear_moves, open_moves}
 use Rattle.safety.proofs.ReaderSteps.{note_vote_moves, note_blank_moves, learn_moves}
 use Rattle.safety.proofs.Views.{View, Kept, Changes, OwnTrue, kept_after}
@@ -112,7 +112,7 @@ module _ (s : Setup) {H : History} {hall hall' : View} (rules : Ruled s hall) (k
         grows = t.moved.grows;
         kept =
             kept_after s (small_coordinator s rules.setup) kept t.moved changes (own t.after t.row) (new t.after t.sent);
-        offers = t.moved.offers-are;
+        offers = t.moved.offers_are;
       }
 
   pub step_keeps : {offered : List Offer} → Grants s hall hall' offered → Next s H hall' offered
@@ -139,11 +139,11 @@ module _ (s : Setup) {H : History} {hall hall' : View} (rules : Ruled s hall) (k
   step_keeps (blank k j m l p h e d) =
       next [] (blank_moves s kept.sound k _ (kept.racks k l) m h) d (λ H'. subst (RackTrue H' k) (sym e)) only
   step_keeps (take_page b c m l p h e d) =
-      next [] (take-page_moves s kept.sound rules.setup b _ (kept.boxes b l) (rules.boxes b l) c m (rules.posted _ p) (kept.posted _ p) h) d
+      next [] (take_page_moves s kept.sound rules.setup b _ (kept.boxes b l) (rules.boxes b l) c m (rules.posted _ p) (kept.posted _ p) h) d
       (λ H'. subst (BoxTrue H' b) (sym e)) only
   step_keeps (take_reading b k m l p h e d) =
       next []
-      (take-reading_moves s kept.sound rules.setup b _ (kept.boxes b l) (rules.boxes b l) k m (rules.posted _ p).0 (rules.posted _ p).1
+      (take_reading_moves s kept.sound rules.setup b _ (kept.boxes b l) (rules.boxes b l) k m (rules.posted _ p).0 (rules.posted _ p).1
       (kept.posted _ p) h)
       d (λ H'. subst (BoxTrue H' b) (sym e)) only
   step_keeps (note_vote i b m l p h e d) =

@@ -61,8 +61,8 @@ says_stays g (one_a c m) t = tt
 says_stays g (one_b b m) t = record { told = told_stays g b (key m.round) (key m.vrnd) m.vote t.told }
 says_stays g (two_s c m) t =
     record {
-      free_opened = λ e. g.opened _ (free m.round.cf) refl (t.free-opened e);
-      fixed_opened = λ e. g.opened _ (fixed m.page) refl (t.fixed-opened e);
+      free_opened = λ e. g.opened _ (free m.round.cf) refl (t.free_opened e);
+      fixed_opened = λ e. g.opened _ (fixed m.page) refl (t.fixed_opened e);
     }
 says_stays g (two_a k m) t =
     record {

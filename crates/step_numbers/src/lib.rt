@@ -2,6 +2,8 @@
 // whether the numbers that it names are in range.
 //
 // The hall's step and the C step both look at them before they look at the blocks that the step names.
+#![tactic(auto)]
+
 ghost use Rattle.std.specs.Prelude.{◌+◌, cond, ◌&&◌, ◌≡◌};
 ghost use Rattle.rounds.specs.Setups.{one_to, some_racks};
 ghost use Rattle.rounds.specs.Rounds.{largest_number};
@@ -19,7 +21,7 @@ use rounds::{Number, Round, Setup, some_racks};
 const LAST_CODE: u32 = 13;
 
 // Where the rows of the agents that do a step begin, and how many there are.
-#[derive(Drop)]
+#[derive(Clone, Copy)]
 pub struct Rows {
     pub first: usize,
     pub agents: u8,

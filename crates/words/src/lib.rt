@@ -6,6 +6,8 @@
 // the length of their block once, before the first number is read, and each place is a constant of
 // the layout, so the demand is shown there and costs no test here. What the bytes mean is no
 // business of this crate.
+#![tactic(auto)]
+
 mod numbers;
 mod sums;
 mod zeros;

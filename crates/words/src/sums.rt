@@ -11,7 +11,7 @@ ghost use Rattle.words.specs.Sums.{first_sum, second_sum, word_of, together, fir
 
 use crate::numbers::get_u32;
 
-#[derive(Drop)]
+#[derive(Clone, Copy)]
 pub struct Sums {
     pub first: u32,
     pub second: u32,

@@ -1,4 +1,4 @@
-use Rattle.acts.proofs.Coded.{as_offer, as_start, as_join, as_hear, as_open, as_prepare, as_fast, as_blank, as_take-page, as_take-reading, as_note_vote, as_note_blank, as_learn, last_code}
+use Rattle.acts.proofs.Coded.{as_offer, as_start, as_join, as_hear, as_open, as_prepare, as_fast, as_blank, as_take_page, as_take_reading, as_note_vote, as_note_blank, as_learn, last_code}
 use borrow.Author.Rules.{rules}
 use Rattle.acts.proofs.acts.act.Statement.{statement}
 use Rattle.acts.proofs.acts.act.Tie as tie
@@ -67,10 +67,10 @@ returns-8 : tie.Need-returns-8
 returns-8 c = as_blank c.before.before.before.before.before.before.before.before.before.before.before.before.before.before.before.args.hall c.before.before.before.before.before.before.before.before.before.before.before.before.before.before.before.args.late c.before.before.before.before.before.before.before.before.before.before.before.before.before.before.before.args.numbers c.before.before.before.before.before.before.before.before.before.before.before.before.before.before.before.args.row.now c.before.before.before.before.before.before.before.before.before.before.before.before.before.before.before.args.message.now c.before.before.before.before.before.before.before.match.keys8 c.before.before.before.before.blank.ensures
 
 returns-9 : tie.Need-returns-9
-returns-9 c = as_take-page c.before.before.before.before.before.before.before.before.before.before.before.before.before.before.before.args.hall c.before.before.before.before.before.before.before.before.before.before.before.before.before.before.before.args.late c.before.before.before.before.before.before.before.before.before.before.before.before.before.before.before.args.numbers c.before.before.before.before.before.before.before.before.before.before.before.before.before.before.before.args.row.now c.before.before.before.before.before.before.before.before.before.before.before.before.before.before.before.args.message.now c.before.before.before.before.before.before.before.match.keys9 c.before.before.before.before.take-page.ensures
+returns-9 c = as_take_page c.before.before.before.before.before.before.before.before.before.before.before.before.before.before.before.args.hall c.before.before.before.before.before.before.before.before.before.before.before.before.before.before.before.args.late c.before.before.before.before.before.before.before.before.before.before.before.before.before.before.before.args.numbers c.before.before.before.before.before.before.before.before.before.before.before.before.before.before.before.args.row.now c.before.before.before.before.before.before.before.before.before.before.before.before.before.before.before.args.message.now c.before.before.before.before.before.before.before.match.keys9 c.before.before.before.before.take-page.ensures
 
 returns-10 : tie.Need-returns-10
-returns-10 c = as_take-reading c.before.before.before.before.before.before.before.before.before.before.before.before.before.before.before.args.hall c.before.before.before.before.before.before.before.before.before.before.before.before.before.before.before.args.late c.before.before.before.before.before.before.before.before.before.before.before.before.before.before.before.args.numbers c.before.before.before.before.before.before.before.before.before.before.before.before.before.before.before.args.row.now c.before.before.before.before.before.before.before.before.before.before.before.before.before.before.before.args.message.now c.before.before.before.before.before.before.before.match.keys10 c.before.before.before.before.take-reading.ensures
+returns-10 c = as_take_reading c.before.before.before.before.before.before.before.before.before.before.before.before.before.before.before.args.hall c.before.before.before.before.before.before.before.before.before.before.before.before.before.before.before.args.late c.before.before.before.before.before.before.before.before.before.before.before.before.before.before.before.args.numbers c.before.before.before.before.before.before.before.before.before.before.before.before.before.before.before.args.row.now c.before.before.before.before.before.before.before.before.before.before.before.before.before.before.before.args.message.now c.before.before.before.before.before.before.before.match.keys10 c.before.before.before.before.take-reading.ensures
 
 returns-11 : tie.Need-returns-11
 returns-11 c = as_note_vote c.before.before.before.before.before.before.before.before.before.before.before.before.args.hall c.before.before.before.before.before.before.before.before.before.before.before.before.args.late c.before.before.before.before.before.before.before.before.before.before.before.before.args.numbers c.before.before.before.before.before.before.before.before.before.before.before.before.args.row.now c.before.before.before.before.before.before.before.before.before.before.before.before.args.message.now c.before.before.before.before.match.keys11 c.before.before.note-vote.ensures

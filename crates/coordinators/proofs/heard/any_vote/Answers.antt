@@ -1,0 +1,20 @@
+use Rattle.std.proofs.Common.{rules, ◌-◌, false}
+use Rattle.below.proofs.Tests.{any_start, any_more, any_left, any_ends}
+use Rattle.records.specs.Slots.{heard_at}
+use Rattle.coordinators.specs.Steps.{any_vote, is_vote}
+use Rattle.coordinators.proofs.heard.any_vote.Goals as goal
+
+pub returns-then-is_vote : goal.returns-then-is_vote
+unfolding heard_at any_vote
+returns-then-is_vote c = any_left _ _ c.loop-k-test.true c.is_vote.ensures c.if-is_vote.true
+
+pub loop-k-preserved : goal.loop-k-preserved
+unfolding heard_at
+loop-k-preserved c = (search rules, any_more _ c.loop-k.invariant.1 c.is_vote.ensures c.if-is_vote.false)
+
+pub returns : goal.returns
+unfolding any_vote
+returns c = any_ends _ _ c.loop-k.invariant.1 (search rules) (search rules)
+
+pub loop-k-init : goal.loop-k-init
+loop-k-init c = (search rules, any_start _)

@@ -1,0 +1,15 @@
+use Rattle.std.proofs.Common.{rules, ◌-◌}
+use Rattle.fields.proofs.Times.{write_start, write_more, write_ends}
+use Rattle.fields.proofs.Fitted.{heard_lawful}
+use Rattle.fields.specs.Layout.{heard, past_heard}
+use Rattle.rounds.specs.Setups.{most_boxes}
+use Rattle.fields.proofs.slots.put_heard.Goals as goal
+
+pub loop-k-preserved : goal.loop-k-preserved
+loop-k-preserved c = (search rules, write_more most_boxes past_heard heard c.args.value _ _ _ _ _ heard_lawful.long (search rules) c.loop-k.invariant.1 c.put_heard_slot.ensures)
+
+pub returns : goal.returns
+returns c = write_ends most_boxes past_heard heard c.args.value _ _ _ _ c.loop-k.invariant.1 c.loop-k.invariant.0 c.loop-k-test.false
+
+pub loop-k-init : goal.loop-k-init
+loop-k-init c = (search rules, write_start most_boxes past_heard heard c.args.value _ _)

@@ -1,0 +1,7 @@
+use Rattle.std.proofs.Common.{refl}
+use Rattle.below.specs.Below.{row}
+use Rattle.row_blocks.proofs.coordinator.refused.Goals as goal
+
+pub returns : goal.returns
+unfolding row
+returns c = (refl, refl)
