@@ -32,16 +32,16 @@ row_found_lem true true true right is late own e k = go right is (k refl)
     go true b d = rw (← d)
     go false b d = rw (← d)
 
-both_found : (r l m h g right meant is one : Bool) (late own : ℕ) → eqb late granted ≡ l → (r ≡ true → right ≡ is) → (m ≡ true → meant ≡ one) →
+both_found_lem : (r l m h g right meant is one : Bool) (late own : ℕ) → eqb late granted ≡ l → (r ≡ true → right ≡ is) → (m ≡ true → meant ≡ one) →
     both_tests r l m h g late (cond (is && one) own wrong_message) ≡
     cond (eqb (both_tests r l m h g late (unless (right && meant) wrong_message granted)) granted) own
     (both_tests r l m h g late (unless (right && meant) wrong_message granted))
-both_found false l m h g right meant is one late own e k j = refl
-both_found true false m h g right meant is one late own e k j = sym (rw e)
-both_found true true false h g right meant is one late own e k j = refl
-both_found true true true false g right meant is one late own e k j = refl
-both_found true true true true false right meant is one late own e k j = refl
-both_found true true true true true right meant is one late own e k j = go right meant is one (k refl) (j refl)
+both_found_lem false l m h g right meant is one late own e k j = refl
+both_found_lem true false m h g right meant is one late own e k j = sym (rw e)
+both_found_lem true true false h g right meant is one late own e k j = refl
+both_found_lem true true true false g right meant is one late own e k j = refl
+both_found_lem true true true true false right meant is one late own e k j = refl
+both_found_lem true true true true true right meant is one late own e k j = go right meant is one (k refl) (j refl)
   where
     go : (a b a' b' : Bool) → a ≡ a' → b ≡ b' → cond (a' && b') own wrong_message ≡ cond (eqb (unless (a && b) wrong_message granted) granted) own (unless (a && b) wrong_message granted)
     go true true a' b' p q = rw (← p, ← q)
@@ -205,7 +205,7 @@ module _ {R M : Type 0} (kr : Kind R) (km : Kind M) (fr : Familiar kr) (fm : Fam
   unfolding both_refusal
   both_number =
       ap (λ (n : ℕ). both_tests (known row) (eqb late granted) (known message) (own_row hall (stamp_of row)) (same_hall hall (stamp_of message)) late n) (picked (is_a kr row && is_a km message) (own (stamp_of row) (stamp_of message) (body_of kr row) (body_of km message)) wrong_message) ∙
-      both_found (known row) (eqb late granted) (known message) (own_row hall (stamp_of row)) (same_hall hall (stamp_of message)) (good kr row) (good km message) (is_a kr row) (is_a km message) late _ refl (fr.told row) (fm.told message) ∙
+      both_found_lem (known row) (eqb late granted) (known message) (own_row hall (stamp_of row)) (same_hall hall (stamp_of message)) (good kr row) (good km message) (is_a kr row) (is_a km message) late _ refl (fr.told row) (fm.told message) ∙
       ap (λ (n : ℕ). cond (eqb n granted) (own (stamp_of row) (stamp_of message) (body_of kr row) (body_of km message)).refusal n) (sym both_named)
 
   both_good : no ≡ granted → good kr row && good km message ≡ true

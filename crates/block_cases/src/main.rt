@@ -20,19 +20,16 @@ mod two_b_cases;
 mod two_s_cases;
 
 use blocks::{BLOCK, CHECKS};
-use libc::STDOUT_FILENO;
+use std::io;
 
 #[derive(Clone, Copy)]
 pub struct Block {
     pub bytes: [u8; BLOCK],
 }
 
-fn tell(block: &[u8]) {
+fn tell(rt: &impl Print, block: &[u8]) -> io::Result<()> {
     let read = kinds::kind_of(block);
-    io::print_decimal(STDOUT_FILENO, read.refusal as u64);
-    io::write_all(STDOUT_FILENO, b" ");
-    io::print_decimal(STDOUT_FILENO, read.kind as u64);
-    io::write_all(STDOUT_FILENO, b"\n");
+    println!(rt; "{} {}", read.refusal, read.kind)
 }
 
 // The check words of what the block holds now.
@@ -68,31 +65,31 @@ impl Block {
     }
 
     // The check words redone, and the answer printed.
-    pub(crate) fn tell(self) {
+    pub(crate) fn tell(self, rt: &impl Print) -> io::Result<()> {
         let mut bytes = self.bytes;
         redo(&mut bytes);
-        tell(&bytes);
+        tell(rt, &bytes)
     }
 }
 
-fn main() {
+fn main(rt: HostRuntime) -> io::Result<()> {
     let bytes = [0u8; BLOCK];
     // One byte short.
-    tell(&bytes[..511]);
+    tell(&rt, &bytes[..511])?;
     // All zero, and all zero with check words left out.
-    tell(&bytes);
+    tell(&rt, &bytes)?;
     let good = Block::of(16, 0);
     let unsealed = good.bytes;
-    tell(&unsealed);
-    propose_cases::cases();
-    one_a_cases::cases();
-    one_b_cases::cases();
-    two_s_cases::cases();
-    two_a_cases::cases();
-    two_b_cases::cases();
-    head_cases::cases();
-    coordinator_cases::cases();
-    box_cases::cases();
-    rack_cases::cases();
-    reader_cases::cases();
+    tell(&rt, &unsealed)?;
+    propose_cases::cases(&rt)?;
+    one_a_cases::cases(&rt)?;
+    one_b_cases::cases(&rt)?;
+    two_s_cases::cases(&rt)?;
+    two_a_cases::cases(&rt)?;
+    two_b_cases::cases(&rt)?;
+    head_cases::cases(&rt)?;
+    coordinator_cases::cases(&rt)?;
+    box_cases::cases(&rt)?;
+    rack_cases::cases(&rt)?;
+    reader_cases::cases(&rt)
 }

@@ -1,0 +1,29 @@
+use Rattle.row_blocks.specs.Rows.{box}
+use Rattle.message_blocks.specs.Messages.{two_a, two_b}
+use Rattle.boxes.specs.declared.answer.Taken.{Taken}
+use Rattle.boxes.specs.Steps.{take_reading_of}
+use Rattle.acts.specs.Acts.{take_reading_act}
+use Rattle.acts.proofs.Familiar.{box_familiar, two_a_familiar}
+use Rattle.acts.proofs.Answered.{both_sends_not, both_sends_no, both_sends_yes}
+use Rattle.acts.proofs.box_acts.take_reading.Goals as goal
+
+pub named_both-number-requires : goal.named_both-number-requires
+named_both-number-requires c = (c.requires.0, c.requires.1.0)
+
+pub returns-then-number-ne-GRANTED : goal.returns-then-number-ne-GRANTED
+unfolding take_reading_act
+returns-then-number-ne-GRANTED c = both_sends_not box two_a two_b box_familiar two_a_familiar Taken (λ a. a.refusal) (λ a. a.row) (λ a. a.sent) (λ s t r m. take_reading_of s.setup r t.agent m) c.args.hall c.args.late c.requires.0 c.requires.1.0 c.read_box-own.ensures c.read_two_a-heard.ensures c.named_both-number.ensures c.if-number-ne-GRANTED.true
+
+pub returns-then-act-ne-GRANTED : goal.returns-then-act-ne-GRANTED
+unfolding take_reading_act
+returns-then-act-ne-GRANTED c = both_sends_no box two_a two_b box_familiar two_a_familiar Taken (λ a. a.refusal) (λ a. a.row) (λ a. a.sent) (λ s t r m. take_reading_of s.setup r t.agent m) c.args.hall c.args.late c.requires.0 c.requires.1.0 c.read_box-own.ensures c.read_two_a-heard.ensures c.named_both-number.ensures c.if-number-ne-GRANTED.false c.take_reading-act.ensures c.if-act-ne-GRANTED.true
+
+pub put_box-requires : goal.put_box-requires
+put_box-requires c = c.requires.1.1.0
+
+pub put_two_b-requires : goal.put_two_b-requires
+put_two_b-requires c = c.requires.1.1.1
+
+pub returns : goal.returns
+unfolding take_reading_act
+returns c = both_sends_yes box two_a two_b box_familiar two_a_familiar Taken (λ a. a.refusal) (λ a. a.row) (λ a. a.sent) (λ s t r m. take_reading_of s.setup r t.agent m) c.args.hall c.args.late c.requires.0 c.requires.1.0 c.read_box-own.ensures c.read_two_a-heard.ensures c.named_both-number.ensures c.if-number-ne-GRANTED.false c.take_reading-act.ensures c.if-act-ne-GRANTED.false c.put_box.ensures c.put_two_b.ensures
