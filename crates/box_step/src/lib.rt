@@ -94,7 +94,7 @@ pub fn step(
     if acted.refusal != 0 {
         return acted.refusal as u32;
     }
-    bytes::copy(&after, row);
+    row.copy_from_slice(&after);
     clear_unless(acted.sends, sent);
     0
 }

@@ -37,7 +37,7 @@ fn put_block(hall: &mut [u8], place: usize, block: &[u8])
 {
     let at = place * BLOCK;
     let end = at + BLOCK;
-    bytes::copy(block, &mut hall[at..end]);
+    hall[at..end].copy_from_slice(block);
 }
 
 // A message that is sent goes to the end of the post: its block, then the count in the head.

@@ -120,7 +120,7 @@ module _ {instance : ℕ} {s : Setup} {start : View} where
       }
   course {hall} r (x ∷ later) =
       let one = next r x in
-      let rest = course one.reached later in
+      let rest = course {hall = hall_after hall x} one.reached later in
       record {
         reached = rest.reached;
         keeps = λ v m. rest.keeps v (one.keeps v m);

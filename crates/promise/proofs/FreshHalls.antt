@@ -33,9 +33,9 @@ row_size k Shaped laws instance s agent r = go (ltb agent (k.agents s))
     go true = laws.long _ _
     go false = length-replicate {A = ℕ} block_size 0
 
-block_size : (instance : ℕ) (s : Setup) (place : ℕ) → length (fresh_block instance s place) ≡ block_size
+fresh_block_size : (instance : ℕ) (s : Setup) (place : ℕ) → length (fresh_block instance s place) ≡ block_size
 unfolding fresh_block
-block_size instance s place = go (ltb place coordinators_at) (ltb place boxes_at) (ltb place racks_at) (ltb place readers_at) (ltb place messages_at)
+fresh_block_size instance s place = go (ltb place coordinators_at) (ltb place boxes_at) (ltb place racks_at) (ltb place readers_at) (ltb place messages_at)
   where
     go : (a b c d e : Bool) →
         length
@@ -57,7 +57,7 @@ module _ (instance : ℕ) (s : Setup) (range : setup_in_range s ≡ true) (small
 
   at : (place : ℕ) → place < blocks_of_hall → block_at (fresh_hall instance s) place ≡ fresh_block instance s place
   unfolding fresh_hall
-  at place l = run_block blocks_of_hall (fresh_block instance s) (block_size instance s) place l
+  at place l = run_block blocks_of_hall (fresh_block instance s) (fresh_block_size instance s) place l
 
   exists : {R : Type 0} (k : Kind R) (agent : ℕ) (r : R) → agent < k.agents s → row_or_zero k instance s agent r ≡ encode k (stamp_for instance s agent) r
   exists k agent r l = rw (lt-ltb agent (k.agents s) l)
@@ -112,7 +112,7 @@ module _ (instance : ℕ) (s : Setup) (range : setup_in_range s ≡ true) (small
   unfolding fresh_hall
   fresh_good =
       record {
-        long = length_run block_size blocks_of_hall (fresh_block instance s) (block_size instance s);
+        long = length_run block_size blocks_of_hall (fresh_block instance s) (fresh_block_size instance s);
         setup = range;
         small = small;
         few = omega arith;

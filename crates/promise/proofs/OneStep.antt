@@ -88,16 +88,16 @@ unfolding good_as message_as
 two_b_post = record { laws = two_b_kept; named = λ b. refl; reads = λ b e. by_kind b 6 e }
 
 -- where a step is granted, its row and its message are of the kinds that it names
-pub on_row : {R : Type 0} (k : Kind R) (row : List ℕ) (act : R → Act) → (on_row k row act).refusal ≡ granted → on_row k row act ≡ act (body_of k row)
-on_row k row act h = go (is_a k row) h
+pub on_row_lem : {R : Type 0} (k : Kind R) (row : List ℕ) (act : R → Act) → (on_row k row act).refusal ≡ granted → on_row k row act ≡ act (body_of k row)
+on_row_lem k row act h = go (is_a k row) h
   where
     go : (b : Bool) → (cond b (act (body_of k row)) (refused wrong_message)).refusal ≡ granted → cond b (act (body_of k row)) (refused wrong_message) ≡ act (body_of k row)
     go true e = refl
     go false e = absurd (omega (arith, e))
 
-pub on_both : {R M : Type 0} (k : Kind R) (m : Kind M) (row message : List ℕ) (act : R → M → Act) → (on_both k m row message act).refusal ≡ granted →
+pub on_both_lem : {R M : Type 0} (k : Kind R) (m : Kind M) (row message : List ℕ) (act : R → M → Act) → (on_both k m row message act).refusal ≡ granted →
     (is_a m message ≡ true) × (on_both k m row message act ≡ act (body_of k row) (body_of m message))
-on_both k m row message act h = go (is_a k row && is_a m message) refl h
+on_both_lem k m row message act h = go (is_a k row && is_a m message) refl h
   where
     go : (b : Bool) → is_a k row && is_a m message ≡ b → (cond b (act (body_of k row) (body_of m message)) (refused wrong_message)).refusal ≡ granted →
         (is_a m message ≡ true) × (cond b (act (body_of k row) (body_of m message)) (refused wrong_message) ≡ act (body_of k row) (body_of m message))

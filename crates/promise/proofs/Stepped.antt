@@ -27,7 +27,7 @@ use Rattle.promise.specs.Runs.{page_of, LearntBy, sends}
 use Rattle.promise.proofs.GoodBlocks.{stamp_for, Good, of_kind}
 use Rattle.promise.proofs.GoodHalls.{GoodHall, view_of}
 use Rattle.promise.proofs.HallNumbers.{act_in, HallGranted}
-use Rattle.promise.proofs.OneStep.{PostKind, on_row, on_both}
+use Rattle.promise.proofs.OneStep.{PostKind, on_row_lem, on_both_lem}
 
 abbrev pub step_of : ℕ → ℕ → ℕ → ℕ → ℕ → ℕ → ℕ → Step
 step_of code a j n c cf v = record { code = code; agent = a; message = j; n = n; c = c; cf = cf; reading = v }
@@ -84,7 +84,7 @@ module _ {instance : ℕ} {s : Setup} {count : ℕ} {hall : List ℕ} (g : GoodH
       }
     where
       both : (is_a m (block_at hall (messages_at + j)) ≡ true) × (on_both k m (block_at hall place) (block_at hall (messages_at + j)) step ≡ step (body_of k (block_at hall place)) (body_of m (block_at hall (messages_at + j))))
-      both = on_both k m (block_at hall place) (block_at hall (messages_at + j)) step (ap (λ (y : Act). y.refusal) (sym e) ∙ f.act)
+      both = on_both_lem k m (block_at hall place) (block_at hall (messages_at + j)) step (ap (λ (y : Act). y.refusal) (sym e) ∙ f.act)
 
   -- a step that reads its row alone
   pub alone : (step : R → Act) → act_in g x ≡ on_row k (block_at hall place) step →
@@ -92,4 +92,4 @@ module _ {instance : ℕ} {s : Setup} {count : ℕ} {hall : List ℕ} (g : GoodH
   alone step e = (ap (λ (y : Act). y.refusal) (sym is ∙ sym e) ∙ f.act, e ∙ is)
     where
       is : on_row k (block_at hall place) step ≡ step (body_of k (block_at hall place))
-      is = on_row k (block_at hall place) step (ap (λ (y : Act). y.refusal) (sym e) ∙ f.act)
+      is = on_row_lem k (block_at hall place) step (ap (λ (y : Act). y.refusal) (sym e) ∙ f.act)

@@ -9,7 +9,7 @@ pub returns-then-block-ne-BLOCK : goal.returns-then-block-ne-BLOCK
 returns-then-block-ne-BLOCK c = write_short coordinator CoordinatorFits coordinator_proper _ _ _ c.if-block-ne-BLOCK.true
 
 pub returns-then-not-both : goal.returns-then-not-both
-returns-then-not-both c = write_bad coordinator CoordinatorFits coordinator_proper _ _ _ c.if-block-ne-BLOCK.false (keeping coordinator CoordinatorFits coordinator_proper _ _ c.rules.ensures c.rules-2.ensures c.both.ensures) (not-true _ (ap not c.if-not-both.true))
+returns-then-not-both c = write_bad coordinator CoordinatorFits coordinator_proper _ _ _ c.if-block-ne-BLOCK.false (keeping coordinator CoordinatorFits coordinator_proper _ _ c.rules.ensures c.rules-2.ensures c.both.ensures) c.if-not-both.true
 
 pub returns : goal.returns
-returns c = write_good coordinator CoordinatorFits coordinator_proper _ _ c.if-block-ne-BLOCK.false (keeping coordinator CoordinatorFits coordinator_proper _ _ c.rules.ensures c.rules-2.ensures c.both.ensures) (not-false _ (ap not c.if-not-both.false)) c.put_coordinator.ensures
+returns c = write_good coordinator CoordinatorFits coordinator_proper _ _ c.if-block-ne-BLOCK.false (keeping coordinator CoordinatorFits coordinator_proper _ _ c.rules.ensures c.rules-2.ensures c.both.ensures) c.if-not-both.false c.put_coordinator.ensures
