@@ -7,7 +7,8 @@ pub returns-then-refusal-ne-GRANTED : goal.returns-then-refusal-ne-GRANTED
 returns-then-refusal-ne-GRANTED c = blocks_refused _ _ c.refusal_of-refusal.ensures c.if-refusal-ne-GRANTED.true
 
 pub walk-count-requires : goal.walk-count-requires
-walk-count-requires c =     let r = readable _ (sym c.refusal_of-refusal.ensures ∙ c.if-refusal-ne-GRANTED.false) in
+walk-count-requires c =
+    let r = readable _ (sym c.refusal_of-refusal.ensures ∙ c.if-refusal-ne-GRANTED.false) in
     (omega arith, (omega (arith, r.few), omega (arith, r.racks, c.racks_of-racks.ensures)))
 
 pub returns-then-list-count : goal.returns-then-list-count
