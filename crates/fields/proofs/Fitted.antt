@@ -20,7 +20,7 @@ use Rattle.records.specs.declared.slots.Heard.{Heard}
 use Rattle.records.specs.declared.slots.Held.{Held}
 use Rattle.records.specs.declared.slots.Blank.{Blank}
 use Rattle.records.specs.Slots.{no_blank}
-use Rattle.fields.specs.Codecs.{one_byte, two_bytes, four_bytes, both, some, times}
+use Rattle.fields.specs.Codecs.{one_byte, two_bytes, four_bytes, both, times}
 use Rattle.fields.specs.Layout.{flag, round, reading, no_reading, is_no_reading, state_of, payload_of, line_of, line_exact, line_as, page, vote, heard, held, blank, five_heard, five_held, eight_blanks, past_heard, past_held}
 use Rattle.fields.proofs.Lawful.{Lawful, one_lawful, two_lawful, four_lawful, both_lawful, like_lawful, some_lawful}
 use Rattle.fields.proofs.Times.{Listed, times_lawful}

@@ -11,7 +11,7 @@ use Rattle.below.proofs.Tests.{not_true_false}
 use Rattle.below.proofs.Counts.{count_grows}
 use Rattle.pages.specs.declared.page.Page.{Page}
 use Rattle.pages.specs.Racks.{racks_below}
-use Rattle.pages.specs.Pages.{at, page, compatible_of, union_of, trivial_of}
+use Rattle.pages.specs.Pages.{at, compatible_of, union_of, trivial_of}
 use Rattle.pages.proofs.Lines.{compatible_of_bound, prefix_antisym}
 use Rattle.pages.proofs.Filled.{page_same, at_page}
 use Rattle.pages.proofs.PageLaws.{prefix_lines, lines_compatible, union_left, union_right, union_least}

@@ -12,7 +12,7 @@ use Rattle.pages.specs.declared.line.Mark.{Mark}
 use Rattle.pages.specs.declared.page.Page.{Page}
 use Rattle.pages.specs.Lines.{is_absent, mark_in_range}
 use Rattle.pages.specs.Racks.{most_racks, has, racks_below}
-use Rattle.pages.specs.Pages.{at, page, valued_of, trivial_of}
+use Rattle.pages.specs.Pages.{at, valued_of, trivial_of}
 use Rattle.pages.proofs.Lines.{absent_is}
 use Rattle.pages.proofs.PageLaws.{nil_same, within_absent, within_range, lines_within}
 use Rattle.pages.proofs.Kept.{nil_within}

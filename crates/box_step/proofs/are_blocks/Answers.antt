@@ -1,4 +1,3 @@
-
 use Rattle.box_step.proofs.are_blocks.Goals as goal
 
 pub returns : goal.returns

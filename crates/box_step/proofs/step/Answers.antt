@@ -1,6 +1,5 @@
-use Rattle.std.proofs.Common.{rules, ap, not, arith, length, sym, ◌∙◌}
+use Rattle.std.proofs.Common.{rules, ap, arith, length, sym, ◌∙◌}
 use Rattle.hall.proofs.StepFacts.{code_range}
-use borrow.Author.Tests.{not-true, not-false}
 use Rattle.box_step.proofs.Stepped.{wrong_length_lem, no_such_step_lem, act_refused, stepped, whole, lengths}
 use Rattle.box_step.proofs.step.Goals as goal
 

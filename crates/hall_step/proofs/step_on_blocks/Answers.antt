@@ -1,5 +1,4 @@
-use Rattle.std.proofs.Common.{rules, ap, not, ℕ, ◌+◌, arith, sym, ◌∙◌}
-use borrow.Author.Tests.{not-true, not-false}
+use Rattle.std.proofs.Common.{rules, ap, ℕ, ◌+◌, arith, sym, ◌∙◌}
 use Rattle.hall_step.proofs.Parts.{part_is, part_size}
 use Rattle.hall_step.proofs.Stepping.{code_within, place_within, message_fits, own_row, own_message, own_hall, act_refused, post_is_full, stepped}
 use Rattle.hall_step.proofs.step_on_blocks.Goals as goal

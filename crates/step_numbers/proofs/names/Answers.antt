@@ -1,4 +1,3 @@
-
 use Rattle.step_numbers.proofs.names.Goals as goal
 
 pub returns : goal.returns

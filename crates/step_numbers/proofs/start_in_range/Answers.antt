@@ -1,4 +1,3 @@
-
 use Rattle.step_numbers.proofs.start_in_range.Goals as goal
 
 pub returns : goal.returns

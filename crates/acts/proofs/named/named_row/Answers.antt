@@ -1,4 +1,3 @@
-
 use Rattle.acts.proofs.named.named_row.Goals as goal
 
 pub returns : goal.returns

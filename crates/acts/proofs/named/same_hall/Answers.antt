@@ -1,4 +1,3 @@
-
 use Rattle.acts.proofs.named.same_hall.Goals as goal
 
 pub returns : goal.returns

@@ -1,4 +1,4 @@
-use Rattle.std.proofs.Common.{rules, ◌-◌}
+use Rattle.std.proofs.Common.{rules}
 use Rattle.book.proofs.Judged.{judges_start, judges_more, judges_end}
 use Rattle.book.proofs.judging.judge.Goals as goal
 

@@ -1,4 +1,4 @@
-use Rattle.std.proofs.Common.{◌≤◌, ◌-◌}
+use Rattle.std.proofs.Common.{◌≤◌}
 use Rattle.book.specs.Book.{Judges}
 use Rattle.book.proofs.judging.judge.Given as goal
 

@@ -1,4 +1,4 @@
-use Rattle.std.proofs.Common.{rules, ◌-◌}
+use Rattle.std.proofs.Common.{rules}
 use Rattle.book.proofs.Steps.{copy_more, copy_ends}
 use Rattle.book.proofs.walking.copy.Goals as goal
 

@@ -1,4 +1,4 @@
-use Rattle.std.proofs.Common.{rules, ◌-◌, refl, sym}
+use Rattle.std.proofs.Common.{rules, refl, sym}
 use Rattle.below.proofs.Tests.{any_start}
 use Rattle.book.specs.Lists.{listed}
 use Rattle.book.proofs.Steps.{any_next, any_whole}

@@ -1,4 +1,4 @@
-use Rattle.std.proofs.Common.{◌≤◌, ◌-◌, eqb, length, get_or, ◌≡◌}
+use Rattle.std.proofs.Common.{◌≤◌, eqb, length, get_or, ◌≡◌}
 use Rattle.below.specs.Below.{any}
 use Rattle.book.proofs.walking.is_listed.Given as goal
 

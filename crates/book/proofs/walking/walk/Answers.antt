@@ -1,4 +1,4 @@
-use Rattle.std.proofs.Common.{rules, ◌-◌, refl}
+use Rattle.std.proofs.Common.{rules, refl}
 use Rattle.book.proofs.Walks.{at_start, page_begins, page_ends, line_entered, walk_left, walk_ends}
 use Rattle.book.proofs.walking.walk.Goals as goal
 

@@ -1,4 +1,4 @@
-use Rattle.std.proofs.Common.{◌≤◌, ◌-◌, length, ◌≡◌}
+use Rattle.std.proofs.Common.{◌≤◌, length, ◌≡◌}
 use Rattle.book.specs.Book.{page_at}
 use Rattle.book.proofs.Walks.{Between, Within}
 use Rattle.book.proofs.walking.walk.Given as goal

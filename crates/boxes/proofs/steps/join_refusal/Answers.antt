@@ -1,4 +1,3 @@
-
 use Rattle.boxes.proofs.steps.join_refusal.Goals as goal
 
 pub returns : goal.returns

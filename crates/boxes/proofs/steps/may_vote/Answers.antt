@@ -1,4 +1,3 @@
-
 use Rattle.boxes.proofs.steps.may_vote.Goals as goal
 
 pub returns : goal.returns

@@ -1,4 +1,3 @@
-
 use Rattle.boxes.proofs.steps.page_with.Goals as goal
 
 pub returns-then-first : goal.returns-then-first

@@ -1,4 +1,3 @@
-
 use Rattle.boxes.proofs.steps.take_page_refusal.Goals as goal
 
 pub returns : goal.returns

@@ -1,4 +1,4 @@
-use Rattle.std.proofs.Common.{rules, ◌-◌, false}
+use Rattle.std.proofs.Common.{rules}
 use Rattle.below.proofs.Tests.{any_start, any_more, any_left, any_ends}
 use Rattle.records.specs.Slots.{heard_at}
 use Rattle.coordinators.specs.Steps.{any_clash}

@@ -1,4 +1,4 @@
-use Rattle.std.proofs.Common.{◌≤◌, ◌-◌, ◌≡◌, false}
+use Rattle.std.proofs.Common.{◌≤◌, ◌≡◌, false}
 use Rattle.below.specs.Below.{any}
 use Rattle.rounds.specs.Setups.{most_boxes}
 use Rattle.records.specs.Slots.{heard_at}

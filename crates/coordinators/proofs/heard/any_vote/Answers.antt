@@ -1,7 +1,7 @@
-use Rattle.std.proofs.Common.{rules, ◌-◌, false}
+use Rattle.std.proofs.Common.{rules}
 use Rattle.below.proofs.Tests.{any_start, any_more, any_left, any_ends}
 use Rattle.records.specs.Slots.{heard_at}
-use Rattle.coordinators.specs.Steps.{any_vote, is_vote}
+use Rattle.coordinators.specs.Steps.{any_vote}
 use Rattle.coordinators.proofs.heard.any_vote.Goals as goal
 
 pub returns-then-is_vote : goal.returns-then-is_vote

@@ -1,4 +1,3 @@
-
 use Rattle.coordinators.proofs.heard.clashing.Goals as goal
 
 pub returns : goal.returns

@@ -1,4 +1,4 @@
-use Rattle.std.proofs.Common.{◌≤◌, ◌-◌, ◌≡◌}
+use Rattle.std.proofs.Common.{◌≤◌, ◌≡◌}
 use Rattle.below.specs.Below.{count}
 use Rattle.rounds.specs.Setups.{most_boxes}
 use Rattle.records.specs.Slots.{heard_at}

@@ -1,7 +1,6 @@
-use Rattle.std.proofs.Common.{rules, ◌-◌, false}
+use Rattle.std.proofs.Common.{rules}
 use Rattle.below.proofs.Tests.{any_start, any_more, any_left, any_ends}
 use Rattle.records.specs.Slots.{heard_at}
-use Rattle.coordinators.specs.Steps.{higher}
 use Rattle.coordinators.proofs.heard.overtaken.Goals as goal
 
 pub returns-then-higher : goal.returns-then-higher

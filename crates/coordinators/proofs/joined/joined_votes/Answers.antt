@@ -1,4 +1,4 @@
-use Rattle.std.proofs.Common.{rules, ◌-◌}
+use Rattle.std.proofs.Common.{rules}
 use Rattle.below.specs.Below.{row as row_of}
 use Rattle.pages.specs.Pages.{empty, page}
 use Rattle.records.specs.Slots.{heard_at}

@@ -1,5 +1,4 @@
-use Rattle.std.proofs.Common.{◌≤◌, ◌-◌, ◌≡◌}
-use Rattle.pages.specs.Pages.{page}
+use Rattle.std.proofs.Common.{◌≤◌, ◌≡◌}
 use Rattle.rounds.specs.Setups.{most_boxes}
 use Rattle.records.specs.Slots.{heard_at}
 use Rattle.coordinators.specs.Steps.{highest, join_votes}

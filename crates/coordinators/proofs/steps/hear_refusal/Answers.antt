@@ -1,4 +1,3 @@
-
 use Rattle.coordinators.proofs.steps.hear_refusal.Goals as goal
 
 pub returns : goal.returns

@@ -1,4 +1,3 @@
-
 use Rattle.coordinators.proofs.steps.open_refusal.Goals as goal
 
 pub returns : goal.returns

@@ -1,4 +1,3 @@
-
 use Rattle.fields.proofs.basic.read_reading.Goals as goal
 
 pub returns : goal.returns

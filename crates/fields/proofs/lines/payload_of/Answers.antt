@@ -1,4 +1,3 @@
-
 use Rattle.fields.proofs.lines.payload_of.Goals as goal
 
 pub returns-in-Absent : goal.returns-in-Absent

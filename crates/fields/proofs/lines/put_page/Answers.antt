@@ -1,4 +1,4 @@
-use Rattle.std.proofs.Common.{rules, ◌-◌}
+use Rattle.std.proofs.Common.{rules}
 use Rattle.fields.proofs.Times.{write_start, write_more, write_ends}
 use Rattle.fields.proofs.Fitted.{line_lawful}
 use Rattle.pages.specs.declared.line.Mark.TheVariants.{Absent}

@@ -1,4 +1,4 @@
-use Rattle.std.proofs.Common.{◌≤◌, ◌-◌, get_or}
+use Rattle.std.proofs.Common.{◌≤◌, get_or}
 use Rattle.words.specs.Bytes.{Spliced}
 use Rattle.fields.specs.Codecs.{run}
 use Rattle.fields.specs.Layout.{heard, past_heard}

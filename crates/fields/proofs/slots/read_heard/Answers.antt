@@ -1,4 +1,4 @@
-use Rattle.std.proofs.Common.{rules, ◌-◌, refl}
+use Rattle.std.proofs.Common.{rules, refl}
 use Rattle.below.proofs.Rows.{filled_start}
 use Rattle.fields.proofs.Times.{read_more, exact_more, exact_start, read_ends}
 use Rattle.fields.specs.Layout.{heard, past_heard}

@@ -1,4 +1,4 @@
-use Rattle.std.proofs.Common.{◌≤◌, ◌-◌, ◌+◌, ◌*◌, ◌≡◌, length}
+use Rattle.std.proofs.Common.{◌≤◌, ◌+◌, ◌*◌, ◌≡◌, length}
 use Rattle.below.specs.Below.{all}
 use Rattle.below.proofs.Rows.{filled}
 use Rattle.fields.specs.Layout.{heard}

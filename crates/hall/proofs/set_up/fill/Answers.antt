@@ -1,6 +1,5 @@
-use Rattle.std.proofs.Common.{rules, ◌-◌, refl}
+use Rattle.std.proofs.Common.{rules, refl}
 use Rattle.fields.specs.Codecs.{run}
-use Rattle.hall.specs.Halls.{fresh_block}
 use Rattle.hall.proofs.FreshBlocks.{turned, fill_ends}
 use Rattle.hall.proofs.set_up.fill.Goals as goal
 

@@ -1,4 +1,4 @@
-use Rattle.std.proofs.Common.{◌≤◌, ◌-◌, ◌*◌, ◌≡◌, ◌++◌, length, drop}
+use Rattle.std.proofs.Common.{◌≤◌, ◌*◌, ◌≡◌, ◌++◌, length, drop}
 use Rattle.fields.specs.Codecs.{run}
 use Rattle.blocks.specs.Frame.{block_size}
 use Rattle.hall.specs.Halls.{blocks_of_hall, hall_size, fresh_block}

@@ -1,4 +1,4 @@
-use Rattle.std.proofs.Common.{◌∙◌, arith}
+use Rattle.std.proofs.Common.{arith}
 use Rattle.lines.proofs.Writing.{length_small, length_more, put_small, put_more}
 use Rattle.lines.proofs.text.+put_decimal.Goals as goal
 

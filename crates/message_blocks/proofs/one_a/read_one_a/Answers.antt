@@ -1,4 +1,4 @@
-use Rattle.std.proofs.Common.{rules, refl, arith}
+use Rattle.std.proofs.Common.{refl, arith}
 use Rattle.message_blocks.specs.Messages.{one_a}
 use Rattle.blocks.proofs.Answered.{read_short, read_other, judged, read_good, read_bad}
 use Rattle.message_blocks.proofs.Propers.{OneAFits, one_a_proper, one_a_got}

@@ -1,4 +1,4 @@
-use Rattle.std.proofs.Common.{rules, refl, arith}
+use Rattle.std.proofs.Common.{refl, arith}
 use Rattle.message_blocks.specs.Messages.{propose}
 use Rattle.blocks.proofs.Answered.{read_short, read_other, judged, read_good, read_bad}
 use Rattle.message_blocks.proofs.Propers.{ProposeFits, propose_proper, propose_got}

@@ -1,4 +1,4 @@
-use Rattle.std.proofs.Common.{rules, arith}
+use Rattle.std.proofs.Common.{arith}
 use Rattle.message_blocks.specs.Messages.{two_a}
 use Rattle.blocks.proofs.Answered.{read_short, read_other, judged, read_good, read_bad}
 use Rattle.message_blocks.proofs.Propers.{TwoAFits, two_a_proper, two_a_got}

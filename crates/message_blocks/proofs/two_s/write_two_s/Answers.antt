@@ -1,5 +1,3 @@
-use Rattle.std.proofs.Common.{rules, ap, not}
-use borrow.Author.Tests.{not-true, not-false}
 use Rattle.message_blocks.specs.Messages.{two_s}
 use Rattle.blocks.proofs.Answered.{write_short, keeping, write_bad, write_good}
 use Rattle.message_blocks.proofs.Propers.{TwoSFits, two_s_proper}

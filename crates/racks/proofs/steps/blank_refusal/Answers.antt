@@ -1,4 +1,3 @@
-
 use Rattle.racks.proofs.steps.blank_refusal.Goals as goal
 
 pub returns : goal.returns

@@ -1,4 +1,3 @@
-
 use Rattle.racks.proofs.steps.fast_refusal.Goals as goal
 
 pub returns : goal.returns

@@ -1,4 +1,4 @@
-use Rattle.std.proofs.Common.{rules, ◌-◌, refl}
+use Rattle.std.proofs.Common.{rules, refl}
 use Rattle.pages.proofs.Filled.{built_start, built_more, built_ends}
 use Rattle.readers.proofs.CountedWays.{column_agreed}
 use Rattle.readers.proofs.counting.agreed_page.Goals as goal

@@ -1,4 +1,4 @@
-use Rattle.std.proofs.Common.{◌≤◌, ◌-◌, ◌≡◌, length}
+use Rattle.std.proofs.Common.{◌≤◌, ◌≡◌, length}
 use Rattle.pages.specs.Racks.{most_racks}
 use Rattle.pages.proofs.Filled.{Built}
 use Rattle.rounds.specs.Setups.{most_boxes}

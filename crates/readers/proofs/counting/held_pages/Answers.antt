@@ -1,4 +1,4 @@
-use Rattle.std.proofs.Common.{rules, ◌-◌, refl, ◌∙◌, arith}
+use Rattle.std.proofs.Common.{rules, refl, ◌∙◌, arith}
 use Rattle.below.proofs.Counts.{count_start, count_add, count_ends}
 use Rattle.below.proofs.Rows.{filled_start, filled_ends}
 use Rattle.records.specs.Slots.{held_at}

@@ -1,4 +1,3 @@
-
 use Rattle.readers.proofs.counting.holds.Goals as goal
 
 pub returns : goal.returns

@@ -1,4 +1,3 @@
-
 use Rattle.readers.proofs.notes.same_round_refusal.Goals as goal
 
 pub returns : goal.returns

@@ -1,4 +1,3 @@
-
 use Rattle.readers.proofs.notes.vote_by_order.Goals as goal
 
 pub returns-in-Equal : goal.returns-in-Equal

@@ -1,4 +1,4 @@
-use Rattle.std.proofs.Common.{rules, arith}
+use Rattle.std.proofs.Common.{arith}
 use Rattle.row_blocks.specs.Rows.{coordinator}
 use Rattle.blocks.proofs.Answered.{read_short, read_other, judged, read_good, read_bad}
 use Rattle.row_blocks.proofs.Propers.{CoordinatorFits, coordinator_proper, coordinator_got}

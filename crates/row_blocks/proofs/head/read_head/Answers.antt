@@ -1,4 +1,4 @@
-use Rattle.std.proofs.Common.{rules, refl, arith}
+use Rattle.std.proofs.Common.{refl, arith}
 use Rattle.row_blocks.specs.Rows.{head}
 use Rattle.blocks.proofs.Answered.{read_short, read_other, judged, read_good, read_bad}
 use Rattle.row_blocks.proofs.Propers.{HeadFits, head_proper, head_got}

@@ -1,4 +1,4 @@
-use Rattle.std.proofs.Common.{rules, arith}
+use Rattle.std.proofs.Common.{arith}
 use Rattle.row_blocks.specs.Rows.{rack}
 use Rattle.blocks.proofs.Answered.{read_short, read_other, judged, read_good, read_bad}
 use Rattle.row_blocks.proofs.Propers.{RackFits, rack_proper, rack_got}

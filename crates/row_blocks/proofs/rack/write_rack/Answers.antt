@@ -1,5 +1,3 @@
-use Rattle.std.proofs.Common.{rules, ap, not}
-use borrow.Author.Tests.{not-true, not-false}
 use Rattle.row_blocks.specs.Rows.{rack}
 use Rattle.blocks.proofs.Answered.{write_short, keeping, write_bad, write_good}
 use Rattle.row_blocks.proofs.Propers.{RackFits, rack_proper}

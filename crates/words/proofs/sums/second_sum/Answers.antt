@@ -1,4 +1,4 @@
-use Rattle.std.proofs.Common.{rules, ◌-◌, refl}
+use Rattle.std.proofs.Common.{rules, refl}
 use Rattle.words.proofs.Summed.{sums_start, first_more, second_more, sums_end}
 use Rattle.words.proofs.sums.second_sum.Goals as goal
 

@@ -1,4 +1,4 @@
-use Rattle.std.proofs.Common.{◌≡◌, ◌-◌, ◌≤◌, get_or}
+use Rattle.std.proofs.Common.{◌≡◌, ◌≤◌, get_or}
 use Rattle.words.specs.Sums.{first_sum, second_sum}
 use Rattle.words.proofs.sums.second_sum.Given as goal
 

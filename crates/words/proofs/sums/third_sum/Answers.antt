@@ -1,4 +1,4 @@
-use Rattle.std.proofs.Common.{rules, ◌-◌}
+use Rattle.std.proofs.Common.{rules}
 use Rattle.words.proofs.Summed.{sums_start, first_more, sum_end}
 use Rattle.words.proofs.sums.third_sum.Goals as goal
 

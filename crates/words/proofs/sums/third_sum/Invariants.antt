@@ -1,4 +1,4 @@
-use Rattle.std.proofs.Common.{◌≡◌, ◌+◌, ◌-◌, ◌*◌, ◌≤◌}
+use Rattle.std.proofs.Common.{◌≡◌, ◌+◌, ◌*◌, ◌≤◌}
 use Rattle.words.specs.Bytes.{number4}
 use Rattle.words.specs.Sums.{first_sum}
 use Rattle.words.proofs.sums.third_sum.Given as goal

@@ -1,4 +1,4 @@
-use Rattle.std.proofs.Common.{rules, ◌-◌, refl, ◌∙◌}
+use Rattle.std.proofs.Common.{rules, refl, ◌∙◌}
 use Rattle.words.proofs.Summed.{together_more}
 use Rattle.below.proofs.Rows.{filled_start, filled_ends}
 use Rattle.words.proofs.sums.thirds_together.Goals as goal

@@ -1,4 +1,4 @@
-use Rattle.std.proofs.Common.{◌≡◌, ◌-◌, ◌≤◌, length}
+use Rattle.std.proofs.Common.{◌≡◌, ◌≤◌, length}
 use Rattle.below.proofs.Rows.{filled}
 use Rattle.words.specs.Sums.{word_of, together}
 use Rattle.words.proofs.sums.thirds_together.Given as goal

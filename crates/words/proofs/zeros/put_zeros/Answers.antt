@@ -1,4 +1,4 @@
-use Rattle.std.proofs.Common.{rules, ◌-◌}
+use Rattle.std.proofs.Common.{rules}
 use Rattle.words.proofs.Zeroes.{zeros_start, zeros_more, zeros_ends}
 use Rattle.words.proofs.zeros.put_zeros.Goals as goal
 

@@ -1,4 +1,4 @@
-use Rattle.std.proofs.Common.{◌-◌, ◌≤◌}
+use Rattle.std.proofs.Common.{◌≤◌}
 use Rattle.words.specs.Bytes.{zeros, Spliced}
 use Rattle.words.proofs.zeros.put_zeros.Given as goal
 

@@ -1,4 +1,4 @@
-use Rattle.std.proofs.Common.{rules, ◌-◌, true}
+use Rattle.std.proofs.Common.{rules}
 use Rattle.words.proofs.Zeroes.{zero_start, zero_more, zero_left, zero_ends}
 use Rattle.words.proofs.zeros.zero_bytes.Goals as goal
 

@@ -1,4 +1,4 @@
-use Rattle.std.proofs.Common.{◌≡◌, ◌-◌, ◌≤◌, true}
+use Rattle.std.proofs.Common.{◌≡◌, ◌≤◌, true}
 use Rattle.words.specs.Bytes.{zero_at}
 use Rattle.words.proofs.zeros.zero_bytes.Given as goal
 

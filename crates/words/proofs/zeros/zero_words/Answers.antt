@@ -1,4 +1,4 @@
-use Rattle.std.proofs.Common.{rules, ◌-◌, arith}
+use Rattle.std.proofs.Common.{rules, arith}
 use Rattle.words.proofs.Zeroes.{words_start, words_turn, words_ends}
 use Rattle.words.proofs.zeros.zero_words.Goals as goal
 

@@ -1,4 +1,4 @@
-use Rattle.std.proofs.Common.{◌≡◌, ◌-◌, ◌*◌, ◌≤◌, eqb}
+use Rattle.std.proofs.Common.{◌≡◌, ◌*◌, ◌≤◌, eqb}
 use Rattle.words.specs.Bytes.{zero_at}
 use Rattle.words.proofs.zeros.zero_words.Given as goal
 

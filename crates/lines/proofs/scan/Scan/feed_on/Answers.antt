@@ -1,4 +1,3 @@
-use Rattle.std.proofs.Common.{◌-◌}
 use Rattle.lines.proofs.Feeding.{reads_start, reads_to_lf, reads_to_end, reads_on}
 use Rattle.lines.proofs.scan.Scan.feed_on.Goals as goal
 

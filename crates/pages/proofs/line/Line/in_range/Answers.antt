@@ -1,4 +1,3 @@
-
 use Rattle.pages.proofs.line.Line.in_range.Goals as goal
 
 pub returns-in-Reading : goal.returns-in-Reading

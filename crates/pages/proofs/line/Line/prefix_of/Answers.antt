@@ -1,4 +1,3 @@
-
 use Rattle.pages.proofs.line.Line.prefix_of.Goals as goal
 
 pub returns-in-Reading : goal.returns-in-Reading

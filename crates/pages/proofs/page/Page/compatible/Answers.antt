@@ -1,4 +1,4 @@
-use Rattle.std.proofs.Common.{rules, ap, not, ◌-◌, true}
+use Rattle.std.proofs.Common.{rules, ap, not}
 use Rattle.below.proofs.Tests.{all_start, all_more, all_left, all_ends}
 use Rattle.pages.specs.Pages.{at, compatible_of}
 use Rattle.pages.proofs.page.Page.compatible.Goals as goal

@@ -1,6 +1,5 @@
-use Rattle.std.proofs.Common.{rules, ap, not, ◌-◌, true}
+use Rattle.std.proofs.Common.{rules, ap, not}
 use Rattle.below.proofs.Tests.{all_start, all_more, all_left, all_ends}
-use Rattle.pages.specs.Lines.{is_absent}
 use Rattle.pages.specs.Pages.{at, empty_of}
 use Rattle.pages.proofs.page.Page.is_empty.Goals as goal
 

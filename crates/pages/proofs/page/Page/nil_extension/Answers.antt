@@ -1,7 +1,6 @@
-use Rattle.std.proofs.Common.{rules, ◌-◌, refl}
+use Rattle.std.proofs.Common.{rules, refl}
 use Rattle.pages.specs.Pages.{at, nil_extension}
 use Rattle.pages.proofs.Filled.{built_start, built_more, built_ends}
-use Rattle.pages.specs.Racks.{has}
 use Rattle.pages.proofs.page.Page.nil_extension.Goals as goal
 
 pub loop-k-preserved : goal.loop-k-preserved

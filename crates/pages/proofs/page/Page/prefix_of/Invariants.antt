@@ -1,4 +1,4 @@
-use Rattle.std.proofs.Common.{◌≤◌, ◌-◌, ◌≡◌, true}
+use Rattle.std.proofs.Common.{◌≤◌, ◌≡◌, true}
 use Rattle.below.specs.Below.{all}
 use Rattle.pages.specs.Lines.{prefix_mark}
 use Rattle.pages.specs.Racks.{most_racks}

@@ -1,4 +1,4 @@
-use Rattle.std.proofs.Common.{not, ◌≤◌, ◌-◌, ◌≡◌, true, ◌||◌}
+use Rattle.std.proofs.Common.{not, ◌≤◌, ◌≡◌, true, ◌||◌}
 use Rattle.below.specs.Below.{all}
 use Rattle.pages.specs.Lines.{is_nil}
 use Rattle.pages.specs.Racks.{most_racks, racks_below}

@@ -1,4 +1,4 @@
-use Rattle.std.proofs.Common.{rules, ◌-◌, refl}
+use Rattle.std.proofs.Common.{rules, refl}
 use Rattle.pages.specs.Pages.{at, union_of}
 use Rattle.pages.proofs.Filled.{built_start, built_more, built_ends}
 use Rattle.pages.proofs.page.Page.union.Goals as goal

@@ -1,6 +1,5 @@
-use Rattle.std.proofs.Common.{rules, ◌-◌, false}
+use Rattle.std.proofs.Common.{rules}
 use Rattle.below.proofs.Tests.{any_start, any_more, any_left, any_ends}
-use Rattle.pages.specs.Lines.{is_reading}
 use Rattle.pages.specs.Pages.{at, valued_of}
 use Rattle.pages.proofs.page.Page.valued.Goals as goal
 

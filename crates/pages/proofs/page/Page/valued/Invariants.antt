@@ -1,4 +1,4 @@
-use Rattle.std.proofs.Common.{◌≤◌, ◌-◌, ◌≡◌, false}
+use Rattle.std.proofs.Common.{◌≤◌, ◌≡◌, false}
 use Rattle.below.specs.Below.{any}
 use Rattle.pages.specs.Lines.{is_reading}
 use Rattle.pages.specs.Racks.{most_racks}

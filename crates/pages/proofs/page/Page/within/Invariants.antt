@@ -1,4 +1,4 @@
-use Rattle.std.proofs.Common.{◌≤◌, ◌-◌, ◌≡◌, true, ◌&&◌, ◌||◌}
+use Rattle.std.proofs.Common.{◌≤◌, ◌≡◌, true, ◌&&◌, ◌||◌}
 use Rattle.below.specs.Below.{all}
 use Rattle.pages.specs.Lines.{is_absent, mark_in_range}
 use Rattle.pages.specs.Racks.{most_racks, racks_below}

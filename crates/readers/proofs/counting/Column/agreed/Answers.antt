@@ -1,6 +1,6 @@
-use Rattle.std.proofs.Common.{rules, ◌-◌, sym, ◌∙◌, false}
+use Rattle.std.proofs.Common.{rules, sym, ◌∙◌}
 use Rattle.below.proofs.Tests.{any_start, any_more, any_ends}
-use Rattle.readers.specs.Counting.{enough, agreed_line, line_at}
+use Rattle.readers.specs.Counting.{agreed_line, line_at}
 use Rattle.readers.proofs.AgreedLine.{first_left, first_none}
 use Rattle.readers.proofs.counting.Column.agreed.Goals as goal
 

@@ -1,4 +1,4 @@
-use Rattle.std.proofs.Common.{rules, ◌-◌, arith}
+use Rattle.std.proofs.Common.{rules, arith}
 use Rattle.below.proofs.Counts.{count_start, count_add, count_ends}
 use Rattle.readers.specs.Counting.{carrying, line_at}
 use Rattle.readers.proofs.Ways.{at_most_turns}

@@ -1,4 +1,4 @@
-use Rattle.std.proofs.Common.{rules, ◌-◌, refl, ◌∙◌}
+use Rattle.std.proofs.Common.{rules, refl, ◌∙◌}
 use Rattle.below.proofs.Rows.{filled_ends}
 use Rattle.pages.proofs.Filled.{built_start, built_more}
 use Rattle.readers.specs.Counting.{page_line}

@@ -1,4 +1,4 @@
-use Rattle.std.proofs.Common.{rules, ap, not, ◌-◌, true}
+use Rattle.std.proofs.Common.{rules, ap, not}
 use Rattle.below.proofs.Tests.{all_start, all_more, all_left, all_ends}
 use Rattle.records.specs.Slots.{held_at}
 use Rattle.records.specs.Rules.{all_held}

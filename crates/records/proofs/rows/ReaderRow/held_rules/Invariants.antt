@@ -1,4 +1,4 @@
-use Rattle.std.proofs.Common.{◌≤◌, ◌-◌, ◌≡◌, true}
+use Rattle.std.proofs.Common.{◌≤◌, ◌≡◌, true}
 use Rattle.below.specs.Below.{all}
 use Rattle.rounds.specs.Setups.{most_boxes}
 use Rattle.records.specs.Slots.{held_at}

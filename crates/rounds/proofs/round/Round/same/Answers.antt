@@ -1,4 +1,3 @@
-
 use Rattle.rounds.proofs.round.Round.same.Goals as goal
 
 pub returns : goal.returns

@@ -1,4 +1,3 @@
-
 use Rattle.rounds.proofs.setup.Setup.same.Goals as goal
 
 pub returns : goal.returns
