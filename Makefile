@@ -13,18 +13,14 @@ help:
 check:
 	.ci/run
 
-# rt check proves what lies below on all cores; rt staticlib alone would go one by one.
+# What is proved already isn't proved again: a second call takes seconds.
 lib:
-	rt check chinchor
-	rt staticlib chinchor
+	tools/build
 
-target/bin/rehearsal: FORCE
-	rt check rehearsal
-
-rehearsal: target/bin/rehearsal
+rehearsal: lib
 	rehearsals/rehearse <rehearsals/example.in
 
-rehearsals: target/bin/rehearsal
+rehearsals: lib
 	rehearsals/run
 
 firmware: lib
@@ -33,7 +29,5 @@ firmware: lib
 agreement: lib
 	twin/agreement
 
-bench: lib target/bin/rehearsal
+bench: lib
 	twin/benchmark
-
-FORCE:

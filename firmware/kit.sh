@@ -1,13 +1,12 @@
 # shellcheck shell=sh
-# Sourced by scripts: the kit's own compiler and emulator, and how programs for x86-64 are built and
-# run on the machine at hand.
+# Sourced by scripts: the kit's own compiler, and how programs over the library are built and run.
 #
-# `rt staticlib` and `rt check` compile for x86-64 alone. Programs that link the library are therefore
-# built with the kit's clang, on every machine alike, and run as they are or under the kit's emulator.
+# `rt` compiles for x86-64 alone, and so do these, with the kit's clang. On another kind of machine they
+# run under an emulator, if it has one.
 kit=${RATTLE_HOME:-$(dirname "$(dirname "$(readlink -f "$(command -v rt)")")")}
-tools=$kit/on/$(uname -m)/toolchain
-emulator=$tools/bin/qemu-x86_64
-[ -x "$emulator" ] || emulator=''
+tools=$kit/toolchain
+emulator=''
+[ "$(uname -m)" = x86_64 ] || emulator=$(command -v qemu-x86_64 || true)
 
 # link_with_chinchor PROGRAM SOURCE...: a program without a C library, over libchinchor.a; sources are
 # named without .c. The kit's clang brings no headers: those that need no C library are the system

@@ -10,7 +10,7 @@ use Rattle.below.proofs.Tests.{and_true, and_left, and_right, or_true_left, all_
 use Rattle.below.proofs.Rows.{length-row, row_at}
 use Rattle.pages.specs.Lines.{is_nil}
 use Rattle.pages.specs.Racks.{racks_below}
-use Rattle.pages.specs.Pages.{at, empty, none, some, trivial_of}
+use Rattle.pages.specs.Pages.{empty, none, some, trivial_of}
 use Rattle.pages.proofs.Kept.{Whole, empty_empty, empty_within, empty_whole}
 use Rattle.pages.proofs.PageLaws.{at_empty, trivial_lines}
 use Rattle.rounds.specs.declared.setup.Setup.{Setup}

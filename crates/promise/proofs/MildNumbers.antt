@@ -38,7 +38,6 @@ use Rattle.readers.specs.Notes.{by_order, same_round_refusal, note_vote_refusal,
 use Rattle.readers.specs.Learning.{Learns, too_few, not_compatible, all_nil, learnt}
 use Rattle.below.proofs.Granted.{answer_number}
 use Rattle.acts.specs.Acts.{Act, refused, is_a, body_of, on_row, on_both}
-use Rattle.hall.specs.Steps.{fits}
 
 -- not 1, 2 or 3; and not 9 either
 abbrev pub Low : ℕ → Type 0

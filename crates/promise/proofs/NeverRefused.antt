@@ -29,7 +29,6 @@ use Rattle.acts.specs.declared.step.Step.{Step}
 use Rattle.acts.specs.Acts.{sending, silent, is_a, body_of, agent_of, act_of, offer_act, start_act, join_act, hear_act, open_act, prepare_act, fast_act, blank_act, take_page_act, take_reading_act, note_vote_act, note_blank_act, learn_act}
 use Rattle.hall.specs.Halls.{coordinators_at, boxes_at, racks_at, readers_at, messages_at, block_at, fresh_hall}
 use Rattle.hall.specs.Steps.{rows_at, agents_for, step_exists, numbers_in_range, fits, hall_refusal}
-use Rattle.safety.proofs.TrueMessages.{two_b}
 use Rattle.safety.proofs.Moved.{coordinator}
 use Rattle.safety.proofs.FreshRuns.{open_fits, note_vote_fits, learn_fits}
 use Rattle.promise.specs.Runs.{run_hall}

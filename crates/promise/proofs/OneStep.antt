@@ -25,7 +25,6 @@ use Rattle.row_blocks.proofs.Theorems.{coordinator_kept, box_kept, rack_kept, re
 use Rattle.kinds.specs.Known.{good_as}
 use Rattle.acts.specs.declared.step.Step.{Step}
 use Rattle.acts.specs.Acts.{Act, refused, sending, silent, is_a, body_of, agent_of, on_row, on_both}
-use Rattle.acts.specs.Named.{names}
 use Rattle.hall.specs.Halls.{block_at}
 use Rattle.hall.specs.Steps.{most_messages, put_block, posted, row_place, granting, fits}
 use Rattle.safety.proofs.TrueMessages.{Message, propose, one_a, one_b, two_s, two_a, two_b}

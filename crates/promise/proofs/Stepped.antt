@@ -19,7 +19,7 @@ use Rattle.hall.specs.Halls.{messages_at, block_at}
 use Rattle.hall.specs.Steps.{granting}
 use Rattle.history.specs.History.{Offer}
 use Rattle.safety.proofs.TrueMessages.{Message}
-use Rattle.safety.proofs.Moved.{Agent, rack, reader}
+use Rattle.safety.proofs.Moved.{Agent, reader}
 use Rattle.safety.proofs.Views.{View, Changes}
 use Rattle.safety.proofs.StepsKeep.{Grants}
 use Rattle.safety.proofs.PagesChange.{reader_apart}

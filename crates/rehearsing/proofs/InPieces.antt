@@ -1,5 +1,5 @@
 -- A rehearsal prints what its input says, in whatever pieces the input comes: `rehearsal_in_pieces`.
-use Prim.Native.Nat.{ℕ, ◌+◌, ◌≤◌, min}
+use Prim.Native.Nat.{ℕ, ◌≤◌, min}
 use native.Mathlib.Nat.{min-eq_left}
 use native.Mathlib.Omega.{arith}
 use lib.Dec.{leb, ltb, eqb}

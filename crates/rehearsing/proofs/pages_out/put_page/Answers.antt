@@ -1,4 +1,4 @@
-use Rattle.std.proofs.Common.{rules, ◌-◌}
+use Rattle.std.proofs.Common.{rules}
 use Rattle.rehearsing.proofs.PageLines.{run_start, run_more, run_ends, rack_room, rack_line}
 use Rattle.rehearsing.proofs.pages_out.put_page.Goals as goal
 

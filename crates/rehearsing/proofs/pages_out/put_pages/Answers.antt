@@ -1,4 +1,4 @@
-use Rattle.std.proofs.Common.{rules, ◌-◌, arith}
+use Rattle.std.proofs.Common.{rules, arith}
 use Rattle.rehearsing.proofs.PageLines.{run_start, run_more, run_ends, reader_room, reader_page}
 use Rattle.rehearsing.proofs.pages_out.put_pages.Goals as goal
 

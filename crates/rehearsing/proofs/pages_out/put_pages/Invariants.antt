@@ -1,4 +1,4 @@
-use Rattle.std.proofs.Common.{◌≤◌, ◌-◌}
+use Rattle.std.proofs.Common.{◌≤◌}
 use Rattle.fields.specs.Codecs.{run}
 use Rattle.lines.specs.Texts.{Put}
 use Rattle.rehearsing.proofs.PageLines.{reader_lines}

@@ -1,4 +1,4 @@
-use Rattle.std.proofs.Common.{rules, ◌-◌, arith, refl, ◌∙◌}
+use Rattle.std.proofs.Common.{rules, arith, refl, ◌∙◌}
 use Rattle.rehearsing.proofs.InParts.{play_start, room_for_more, play_more, play_ends}
 use Rattle.rehearsing.proofs.playing.play_all.Goals as goal
 
