@@ -25,11 +25,11 @@ module _ {A : Type 0} where
   answer_refused number done kept h = rw (ne_eqb number granted h)
 
   -- the number that a step answers is that of its refusal
-  pub answer_number : (number_of_lem : A → ℕ) (number : ℕ) (done kept : A) → number_of_lem done ≡ granted → number_of_lem kept ≡ number →
-      number_of_lem (cond (eqb number granted) done kept) ≡ number
-  answer_number number_of_lem number done kept p q = go (eqb number granted) refl
+  pub answer_number : (number_of : A → ℕ) (number : ℕ) (done kept : A) → number_of done ≡ granted → number_of kept ≡ number →
+      number_of (cond (eqb number granted) done kept) ≡ number
+  answer_number number_of number done kept p q = go (eqb number granted) refl
     where
-      go : (b : Bool) → eqb number granted ≡ b → number_of_lem (cond b done kept) ≡ number
+      go : (b : Bool) → eqb number granted ≡ b → number_of (cond b done kept) ≡ number
       go true e = p ∙ sym (eqb-true number granted e)
       go false e = q
 
