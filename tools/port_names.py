@@ -99,6 +99,8 @@ def main():
         for new in sorted(clash):
             print(new, *sorted(back[new]), "(exists)" if new in words else "")
         return
+    if os.path.exists("docs/PORT.md"):
+        sys.exit("port_names: docs/PORT.md says that this was done")
     for f, t in texts.items():
         def dash(m):
             return to.get(m.group(0), m.group(0))
