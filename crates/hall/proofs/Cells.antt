@@ -4,8 +4,8 @@ use native.Mathlib.Omega.{arith}
 use native.Mathlib.Decide.{dec_lt}
 use mathlib.Core.Path.{◌≡◌, sym, ap, subst, ◌∙◌}
 use mathlib.Core.Logic.{◌≢◌, ⊎_elim}
-use mathlib.Core.List.{List, ◌++◌, append-nil}
-use lib.ListN.{length, get_or, take, drop, length-drop, drop_of_length-le}
+use mathlib.Core.List.{List, ◌++◌}
+use lib.ListN.{length, get_or, take, drop, length-drop}
 use lib.Seq.{length-take-le, take_all, take-append-le, drop-append-le, take_at, drop_at, get_or-take, get_or-drop, ext_get_or}
 use Rattle.below.proofs.Tests.{below_suc}
 use Rattle.words.specs.Bytes.{splice}
@@ -78,9 +78,3 @@ run_block (suc n) f h k l = ⊎_elim here (λ m. there m (run_block n f h k m)) 
     there m e =
         ap (λ (l : List ℕ). take block_size l) (drop-append-le (block_size * k) (run n f) (f n) (omega (arith, size))) ∙
         take-append-le block_size (drop (block_size * k) (run n f)) (f n) (simp length-drop (omega (arith, size))) ∙ e
-
--- a block copied over a block
-pub copied : (from to after : List ℕ) → length from ≡ block_size → length to ≡ block_size → after ≡ take (length from) from ++ drop (length from) to → after ≡ from
-copied from to after f t e =
-    e ∙ ap (λ (l : List ℕ). l ++ drop (length from) to) (take_all (length from) from (omega arith)) ∙
-    ap (λ (l : List ℕ). from ++ l) (drop_of_length-le to {i = length from} (omega (arith, t, f))) ∙ append-nil from

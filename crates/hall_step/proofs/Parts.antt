@@ -2,7 +2,7 @@
 use Prim.Native.Nat.{ℕ, ◌+◌, ◌*◌, ◌-◌, ◌<◌}
 use native.Mathlib.Omega.{arith}
 use native.Mathlib.Nat.{mul_comm}
-use borrow.Rule.Slice.PartMut.{mid_of, put_mid, Post-is}
+use borrow.Rule.Slice.PartMut.{put_mid, Post-is}
 use lib.ListN.{length, take, drop, length-drop}
 use lib.Seq.{length-take-le}
 use mathlib.Core.Path.{◌≡◌, ap, ◌∙◌}
@@ -11,7 +11,6 @@ use Rattle.words.specs.Bytes.{splice}
 use Rattle.blocks.specs.Frame.{block_size}
 use Rattle.hall.specs.Halls.{hall_size, blocks_of_hall, block_at}
 use Rattle.hall.specs.Steps.{put_block}
-use Rattle.hall.proofs.Cells.{copied}
 
 -- as wide as a block
 width : (at : ℕ) → at + block_size - at ≡ block_size
@@ -39,8 +38,3 @@ module _ (hall block new : List ℕ) (place : ℕ) (long : length hall ≡ hall_
     where
       ends : place * block_size + block_size ≡ block_size * place + length block
       ends = omega (arith, size)
-
-  -- copied
-  pub put_copied : new ≡ take (length block) block ++ drop (length block) (mid_of (place * block_size) (place * block_size + block_size - place * block_size) hall) →
-      put_mid (place * block_size) (place * block_size + block_size - place * block_size) hall new ≡ put_block place block hall
-  put_copied e = put_part (copied block _ new size (part_size hall place long within) e)

@@ -1,3 +1,4 @@
+use Rattle.std.proofs.Common.{arith}
 use Rattle.kinds.proofs.Telling.{as_kind, no_kind}
 use Rattle.kinds.specs.Known.{good_as}
 use Rattle.kinds.proofs.refusal_as.Goals as goal
@@ -47,4 +48,6 @@ unfolding good_as
 returns-in-20 c = as_kind (c.args.block.now) c.in-20.is c.read_reader.ensures.refused
 
 pub returns-in_default : goal.returns-in_default
-returns-in_default c = no_kind (c.args.block.now) _ c.requires (c.in_default.in_default-own.rest.0.0.0.0.0.0.0.0.0.0.1) (c.in_default.in_default-own.rest.0.0.0.0.0.0.0.0.0.1) (c.in_default.in_default-own.rest.0.0.0.0.0.0.0.0.1) (c.in_default.in_default-own.rest.0.0.0.0.0.0.0.1) (c.in_default.in_default-own.rest.0.0.0.0.0.0.1) (c.in_default.in_default-own.rest.0.0.0.0.0.1) (c.in_default.in_default-own.rest.0.0.0.0.1) (c.in_default.in_default-own.rest.0.0.0.1) (c.in_default.in_default-own.rest.0.0.1) (c.in_default.in_default-own.rest.0.1) (c.in_default.in_default-own.rest.1)
+returns-in_default c =
+    no_kind c.args.block.now c.args.kind c.requires (omega arith) (omega arith) (omega arith) (omega arith) (omega arith) (omega arith) (omega arith)
+    (omega arith) (omega arith) (omega arith) (omega arith)

@@ -1,3 +1,4 @@
+use Rattle.std.proofs.Common.{arith}
 use borrow.Author.Tests.{ne_eqb}
 use Rattle.hall.specs.Steps.{numbers_in_range}
 use Rattle.step_numbers.proofs.numbers_in_range.Goals as goal
@@ -16,4 +17,4 @@ returns-in-13 c = rw c.in-13.is c.numbers_in_range.ensures
 
 pub returns-in_default : goal.returns-in_default
 unfolding numbers_in_range
-returns-in_default c = rw (ne_eqb _ _ (c.in_default.in_default-own.rest.0.0.1), ne_eqb _ _ (c.in_default.in_default-own.rest.0.1), ne_eqb _ _ (c.in_default.in_default-own.rest.1))
+returns-in_default c = rw (ne_eqb c.args.step.code 1 (omega arith), ne_eqb c.args.step.code 2 (omega arith), ne_eqb c.args.step.code 13 (omega arith))

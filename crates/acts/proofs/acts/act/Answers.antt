@@ -1,3 +1,4 @@
+use Rattle.std.proofs.Common.{arith}
 use Rattle.acts.proofs.Coded.{as_offer, as_start, as_join, as_hear, as_open, as_prepare, as_fast, as_blank, as_take_page, as_take_reading, as_note_vote, as_note_blank, as_learn, last_code}
 use Rattle.acts.proofs.acts.act.Goals as goal
 
@@ -77,4 +78,8 @@ pub returns-in-12 : goal.returns-in-12
 returns-in-12 c = as_note_blank c.args.hall c.args.late c.args.numbers c.args.row.now c.args.message.now c.in-12.is c.note_blank.ensures
 
 pub returns-in_default : goal.returns-in_default
-returns-in_default c = as_learn c.args.hall c.args.late c.args.numbers c.args.row.now c.args.message.now (last_code _ c.requires.0.0 c.requires.0.1 c.in_default.in_default-own.rest.0.0.0.0.0.0.0.0.0.0.0.1 c.in_default.in_default-own.rest.0.0.0.0.0.0.0.0.0.0.1 c.in_default.in_default-own.rest.0.0.0.0.0.0.0.0.0.1 c.in_default.in_default-own.rest.0.0.0.0.0.0.0.0.1 c.in_default.in_default-own.rest.0.0.0.0.0.0.0.1 c.in_default.in_default-own.rest.0.0.0.0.0.0.1 c.in_default.in_default-own.rest.0.0.0.0.0.1 c.in_default.in_default-own.rest.0.0.0.0.1 c.in_default.in_default-own.rest.0.0.0.1 c.in_default.in_default-own.rest.0.0.1 c.in_default.in_default-own.rest.0.1 c.in_default.in_default-own.rest.1) c.learn.ensures
+returns-in_default c =
+    as_learn c.args.hall c.args.late c.args.numbers c.args.row.now c.args.message.now
+    (last_code c.args.code c.requires.0.0 c.requires.0.1 (omega arith) (omega arith) (omega arith) (omega arith) (omega arith) (omega arith)
+    (omega arith) (omega arith) (omega arith) (omega arith) (omega arith) (omega arith))
+    c.learn.ensures
