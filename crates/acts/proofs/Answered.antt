@@ -1,11 +1,6 @@
 -- The ways through the code of an act, by what its calls answered. An answer of a step is of some type `X`, with a refusal, a row and,
 -- where the step sends, a message.
-use Prim.Native.Nat.{ℕ}
-use lib.Dec.{eqb}
-use lib.ListN.{length}
-use mathlib.Core.Path.{◌≡◌, refl, sym, ap, ◌∙◌}
-use mathlib.Core.Bool.{true, false}
-use mathlib.Core.List.{List}
+use Rattle.std.proofs.Common.{ℕ, eqb, length, ◌≡◌, refl, sym, ap, ◌∙◌, true, false, List}
 use Rattle.below.specs.Refusals.{granted}
 use Rattle.records.specs.declared.stamp.Stamp.{Stamp}
 use Rattle.blocks.specs.Frame.{block_size}

@@ -1,10 +1,5 @@
 -- The act that a code names is the act of that step.
-use Prim.Native.Nat.{ℕ, ◌+◌, ◌≤◌}
-use native.Mathlib.Omega.{arith}
-use lib.Dec.{eqb}
-use mathlib.Core.Path.{◌≡◌, refl, sym, ap, subst}
-use mathlib.Core.Bool.{Bool, true, false, cond, ◌&&◌}
-use mathlib.Core.List.{List}
+use Rattle.std.proofs.Common.{ℕ, ◌+◌, ◌≤◌, arith, eqb, ◌≡◌, refl, sym, ap, subst, Bool, true, false, cond, ◌&&◌, List}
 use Rattle.below.specs.Refusals.{granted, wrong_message}
 use Rattle.below.proofs.Tests.{and_false_right}
 use Rattle.records.specs.declared.stamp.Stamp.{Stamp}

@@ -1,10 +1,7 @@
 -- A good block of whatever kind is good for a kind exactly if its third byte is that kind's number; so a block that was read as
 -- the kind that a step names needs no second look.
-use Prim.Native.Nat.{ℕ}
-use mathlib.Core.Path.{◌≡◌, refl, sym, ap, ◌∙◌}
-use mathlib.Core.Bool.{Bool, true, false}
-use mathlib.Core.List.{List}
-use borrow.Author.Tests.{eqb-true, eqb-false}
+use Rattle.std.proofs.Common.{ℕ, ◌≡◌, refl, sym, ap, ◌∙◌, Bool, true, false, List, eqb-true}
+use borrow.Author.Tests.{eqb-false}
 use Rattle.below.proofs.Tests.{not_true_false}
 use Rattle.words.specs.Bytes.{byte}
 use Rattle.blocks.specs.Kinds.{Kind, good}

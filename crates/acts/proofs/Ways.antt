@@ -1,11 +1,6 @@
 -- The ways through an act, once for every act: refused for the blocks it names, refused by its own definition, granted.
-use Prim.Native.Nat.{ℕ}
-use lib.Dec.{eqb}
-use lib.ListN.{length}
-use mathlib.Core.Path.{◌≡◌, refl, sym, ap, ◌∙◌}
-use mathlib.Core.Bool.{Bool, true, false, cond, ◌&&◌, ◌||◌, false≢true}
-use mathlib.Core.List.{List, []}
-use borrow.Author.Tests.{eq-eqb, ne_eqb}
+use Rattle.std.proofs.Common.{ℕ, eqb, length, ◌≡◌, refl, sym, ap, ◌∙◌, Bool, true, false, cond, ◌&&◌, ◌||◌, List, [], eq-eqb, ne_eqb}
+use Rattle.std.proofs.Math.Bool.{false≢true}
 use Rattle.below.specs.Refusals.{unless, granted, wrong_message, bad_block, other_hall}
 use Rattle.below.proofs.Tests.{and_left, and_right}
 use Rattle.records.specs.declared.stamp.Stamp.{Stamp}

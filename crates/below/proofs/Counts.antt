@@ -1,12 +1,6 @@
 -- Laws of `count`, and that two sets of boxes which together count more than there are share one.
-use Prim.Native.Nat.{ℕ, zero, suc, ◌+◌, ◌≤◌, ◌<◌}
-use native.Mathlib.Omega.{arith}
-use native.Mathlib.Decide.{dec_lt}
-use native.Mathlib.Nat.{le_antisymm}
-use native.Mathlib.Numerals.{add-one}
-use mathlib.Core.Path.{◌≡◌, refl, ap, subst, ◌∙◌}
-use mathlib.Core.Bool.{Bool, true, false, cond}
-use mathlib.Core.Logic.{⊎_elim}
+use Rattle.std.proofs.Common.{ℕ, zero, suc, ◌+◌, ◌≤◌, ◌<◌, arith, le_antisymm, add-one, ◌≡◌, refl, ap, subst, ◌∙◌, Bool, true, false, cond, ⊎_elim}
+use Rattle.std.proofs.Math.Decide.{dec_lt}
 use Rattle.below.specs.Below.{count}
 use Rattle.below.proofs.Tests.{decided, found_up, not_true_false}
 

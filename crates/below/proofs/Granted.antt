@@ -1,10 +1,5 @@
 -- Laws of refusals: what a granted answer says of the conditions, and the two ways through a step's code.
-use Prim.Native.Nat.{ℕ, ◌<◌}
-use native.Mathlib.Omega.{arith}
-use lib.Dec.{eqb}
-use borrow.Author.Tests.{eqb-true, eq-eqb, ne_eqb}
-use mathlib.Core.Path.{◌≡◌, refl, sym, subst, ◌∙◌}
-use mathlib.Core.Bool.{Bool, true, false, cond}
+use Rattle.std.proofs.Common.{ℕ, ◌<◌, arith, eqb, eqb-true, eq-eqb, ne_eqb, ◌≡◌, refl, sym, subst, ◌∙◌, Bool, true, false, cond}
 use Rattle.below.specs.Refusals.{unless, granted}
 
 -- granted: the condition held, and so did those after it

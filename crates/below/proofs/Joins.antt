@@ -1,5 +1,5 @@
 -- Each public contract of this crate determines its answer.
-use mathlib.Core.Path.{sym, ◌∙◌}
+use Rattle.std.proofs.Common.{sym, ◌∙◌}
 use Rattle.below.proofs.Unique.{Determines}
 use Rattle.below.proofs.both.Kinds as both-kinds
 use Rattle.below.proofs.both.Reads as both

@@ -1,12 +1,6 @@
 -- Laws of `row`: its length, its elements, and the loop that fills an array with them.
-use Prim.Native.Nat.{ℕ, zero, suc, ◌+◌, ◌≤◌, ◌<◌}
-use native.Mathlib.Numerals.{add-one}
-use native.Mathlib.Nat.{le_antisymm}
-use native.Mathlib.Omega.{arith}
-use mathlib.Core.Path.{◌≡◌, refl, ap, ◌∙◌}
-use mathlib.Core.List.{List, [], ◌∷◌, ◌++◌, append-nil, append_assoc}
-use lib.ListN.{length, get_or, drop, set, drop_of_length-le}
-use lib.Seq.{set_at, drop-cons}
+use Rattle.std.proofs.Common.{ℕ, zero, suc, ◌+◌, ◌≤◌, ◌<◌, add-one, le_antisymm, arith, ◌≡◌, refl, ap, ◌∙◌, List, [], ◌∷◌, ◌++◌, append-nil, append_assoc, length, get_or, drop, set, drop_of_length-le, drop-cons}
+use Rattle.std.proofs.Math.Seq.{set_at}
 use Rattle.below.specs.Below.{row}
 
 module _ {A : Type 0} where

@@ -1,8 +1,6 @@
 -- What it means that a contract determines its function's answer, said of the contract itself: of two results that it permits for the
 -- same arguments, both are the same. A public function's contract is `Reads.Post`, which the prover reads from its `ensures`.
-use Prim.Native.Nat.{ℕ}
-use mathlib.Core.Path.{◌≡◌}
-use mathlib.Core.List.{List}
+use Rattle.std.proofs.Common.{ℕ, ◌≡◌, List}
 use contract.Lifetimes.{Lfts}
 use borrow.Fn.Kinds.{ParamKind, ResultKind, Out, sig_of, ended_of}
 use borrow.Fn.World.{ArgsD, ResD}

@@ -1,11 +1,5 @@
 -- What the reader and the writer of any kind answer, from what their calls answered: one law for each way through them.
-use Prim.Native.Nat.{ℕ, ◌+◌, ◌-◌, ◌<◌}
-use native.Mathlib.Omega.{arith}
-use lib.ListN.{length, length-append}
-use mathlib.Core.Path.{◌≡◌, refl, sym, ap, subst, ◌∙◌}
-use mathlib.Core.Bool.{Bool, true, false, cond, ◌&&◌}
-use mathlib.Core.List.{List, [], ◌++◌}
-use borrow.Author.Tests.{eq-eqb, ne_eqb}
+use Rattle.std.proofs.Common.{ℕ, ◌+◌, ◌-◌, ◌<◌, arith, length, length-append, ◌≡◌, refl, sym, ap, subst, ◌∙◌, Bool, true, false, cond, ◌&&◌, List, [], ◌++◌, eq-eqb, ne_eqb, zero-add}
 use Rattle.below.proofs.Tests.{not_true_false, and_false_right}
 use Rattle.records.specs.declared.stamp.Stamp.{Stamp}
 use Rattle.records.specs.Rules.{stamp_rules}
@@ -17,7 +11,6 @@ use Rattle.blocks.specs.Kinds.{Kind, content, encode, decode, kept, good}
 use Rattle.blocks.specs.Answers.{answer, Reads, Writes}
 use Rattle.blocks.proofs.Framing.{first_agrees, second_agrees}
 use Rattle.blocks.proofs.Judged.{Proper, length-content, good_length, good_tested}
-use native.Mathlib.Nat.{zero-add}
 
 module _ {A : Type 0} (k : Kind A) (P : A → Type 0) (proper : Proper k P) (bytes : List ℕ) where
   -- a block that is refused

@@ -1,13 +1,7 @@
 -- The parts of a block around its body are lawful, and so are its words as a whole.
-use Prim.Native.Nat.{ℕ, ◌+◌, ◌-◌, ◌*◌, ◌/◌, ◌%◌, ◌≤◌, ◌<◌}
-use native.Mathlib.Omega.{arith}
-use native.Mathlib.Decide.{dec_lt}
-use lib.Dec.{eqb}
-use lib.ListN.{length, length-replicate, get_or-replicate, get_or-eq_default}
-use mathlib.Core.Path.{◌≡◌, refl, sym, ap, subst, ◌∙◌}
-use mathlib.Core.Bool.{Bool, false, ◌&&◌}
-use mathlib.Core.List.{List, [], ◌∷◌, ◌++◌}
-use borrow.Author.Tests.{eqb-true, eq-eqb, ne_eqb}
+use Rattle.std.proofs.Common.{ℕ, ◌+◌, ◌-◌, ◌*◌, ◌/◌, ◌%◌, ◌≤◌, ◌<◌, arith, eqb, length, ◌≡◌, refl, sym, ap, subst, ◌∙◌, Bool, false, ◌&&◌, List, [], ◌∷◌, ◌++◌, eqb-true, eq-eqb, ne_eqb}
+use Rattle.std.proofs.Math.Decide.{dec_lt}
+use Rattle.std.proofs.Math.ListN.{length-replicate, get_or-replicate, get_or-eq_default}
 use Rattle.records.specs.declared.stamp.Stamp.{Stamp}
 use Rattle.words.specs.Bytes.{byte, number4, bytes4, zeros, zero_at, splice, Spliced}
 use Rattle.words.specs.Sums.{words, word_of, first_sum_of, second_sum_of}

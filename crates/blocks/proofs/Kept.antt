@@ -1,10 +1,6 @@
 -- All that document 01 and the round trips ask of a kind, from what is its own: its codec, how many agents there are, and that a
 -- record that keeps its rules fits its bytes. `Shaped` says that the record's arrays have the lengths of their types.
-use Prim.Native.Nat.{ℕ, ◌≤◌}
-use lib.ListN.{length}
-use mathlib.Core.Path.{◌≡◌}
-use mathlib.Core.Bool.{true}
-use mathlib.Core.List.{List}
+use Rattle.std.proofs.Common.{ℕ, ◌≤◌, length, ◌≡◌, true, List}
 use Rattle.below.proofs.Tests.{and_left, and_right}
 use Rattle.records.specs.declared.stamp.Stamp.{Stamp}
 use Rattle.records.specs.Rules.{stamp_rules}

@@ -1,12 +1,6 @@
 -- Values that keep the rules fit their bytes.
-use Prim.Native.Nat.{ℕ, ◌^◌, ◌≤◌, ◌<◌}
-use native.Mathlib.Omega.{arith}
-use lib.Dec.{eqb, leb, ltb}
-use lib.ListN.{length, get_or}
-use lib.Pow.{pow_mono}
-use mathlib.Core.Path.{◌≡◌}
-use mathlib.Core.Bool.{Bool, true, false, cond, not, ◌&&◌, ◌||◌, false≢true}
-use borrow.Author.Tests.{eqb-true, leb-true, ltb-true}
+use Rattle.std.proofs.Common.{ℕ, ◌^◌, ◌≤◌, ◌<◌, arith, eqb, leb, ltb, length, get_or, pow_mono, ◌≡◌, Bool, true, false, cond, not, ◌&&◌, ◌||◌, eqb-true, leb-true, ltb-true}
+use Rattle.std.proofs.Math.Bool.{false≢true}
 use Rattle.below.proofs.Tests.{and_left, and_right, all_at}
 use Rattle.pages.specs.declared.line.Mark.{Mark}
 use Rattle.pages.specs.declared.line.Mark.TheVariants.{Absent, Nil, Reading as reads}

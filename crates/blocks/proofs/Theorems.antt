@@ -1,11 +1,6 @@
 -- What holds of every kind, for any bytes and any record: a block is of one kind, is good exactly if a record that keeps the
 -- rules encodes to it, and then its check words are the document's sums; and the contracts of reader and writer leave no choice.
-use Prim.Native.Nat.{ℕ, ◌+◌, ◌-◌, ◌<◌}
-use lib.Dec.{eqb}
-use mathlib.Core.Path.{◌≡◌, sym, ap, subst, ◌∙◌}
-use mathlib.Core.Bool.{Bool, true, ◌&&◌}
-use mathlib.Core.List.{List}
-use borrow.Author.Tests.{eqb-true}
+use Rattle.std.proofs.Common.{ℕ, ◌+◌, ◌-◌, ◌<◌, eqb, ◌≡◌, sym, ap, subst, ◌∙◌, Bool, true, ◌&&◌, List, eqb-true}
 use Rattle.below.proofs.Tests.{and_left, and_right}
 use Rattle.records.specs.declared.stamp.Stamp.{Stamp}
 use Rattle.words.specs.Bytes.{byte, Small, number4, zero_at}

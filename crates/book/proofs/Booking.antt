@@ -1,13 +1,6 @@
 -- The book, by the ways through its code.
-use Prim.Native.Nat.{ℕ, ◌≤◌, ◌<◌}
-use native.Mathlib.Omega.{arith}
-use lib.Dec.{eqb, leb}
-use lib.ListN.{length, take, drop}
-use lib.Seq.{length-take-le}
-use borrow.Author.Tests.{eq-eqb, ne_eqb, le-leb, lt-leb}
-use mathlib.Core.Path.{◌≡◌, sym, ap, ◌∙◌}
-use mathlib.Core.Bool.{Bool, true, cond}
-use mathlib.Core.List.{List, ◌++◌}
+use Rattle.std.proofs.Common.{ℕ, ◌≤◌, ◌<◌, arith, eqb, leb, length, take, drop, length-take-le, eq-eqb, ne_eqb, le-leb, ◌≡◌, sym, ap, ◌∙◌, Bool, true, cond, List, ◌++◌}
+use borrow.Author.Tests.{lt-leb}
 use Rattle.below.specs.Refusals.{unless, granted}
 use Rattle.book.specs.Lists.{list_of, Walked}
 use Rattle.book.specs.Book.{too_short, pages_of, racks_of, book_list, blocks_refusal, book_refusal, book_count, book_after, Books}

@@ -1,14 +1,7 @@
 -- The refusals before the list: the loop over all blocks, the ways through the code, and what blocks are that are not refused.
-use Prim.Native.Nat.{ℕ, ◌+◌, ◌%◌, ◌≤◌, ◌<◌}
-use native.Mathlib.Omega.{arith}
-use native.Mathlib.Nat.{le_antisymm}
-use native.Mathlib.Decide.{ℕ_discrete}
-use lib.Dec.{eqb, leb}
-use lib.ListN.{length}
-use borrow.Author.Tests.{not-true, not-false, eqb-true, leb-true}
-use mathlib.Core.Path.{◌≡◌, refl, subst, ◌∙◌}
-use mathlib.Core.Bool.{Bool, true, false, not, ◌&&◌}
-use mathlib.Core.List.{List}
+use Rattle.std.proofs.Common.{ℕ, ◌+◌, ◌%◌, ◌≤◌, ◌<◌, arith, le_antisymm, eqb, leb, length, eqb-true, leb-true, ◌≡◌, refl, subst, ◌∙◌, Bool, true, false, not, ◌&&◌, List}
+use Rattle.std.proofs.Math.Decide.{ℕ_discrete}
+use borrow.Author.Tests.{not-true, not-false}
 use Rattle.below.specs.Below.{all}
 use Rattle.below.specs.Refusals.{unless, granted}
 use Rattle.below.proofs.Tests.{pick_yes, pick_no, and_left, and_right, all_at}

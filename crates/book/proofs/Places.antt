@@ -1,13 +1,6 @@
 -- The lent blocks at their places.
-use Prim.Native.Nat.{ℕ, ◌+◌, ◌*◌, ◌-◌, ◌≤◌}
-use native.Mathlib.Omega.{arith}
-use lib.Dec.{eqb}
-use lib.ListN.{length, get_or, take, drop, length-drop, get_or-eq_default}
-use lib.Seq.{get_or-take, length-take-le}
-use borrow.Author.Tests.{eq-eqb}
-use mathlib.Core.Path.{◌≡◌, refl, sym, ap, ◌∙◌}
-use mathlib.Core.Bool.{Bool, true, false, cond}
-use mathlib.Core.List.{List}
+use Rattle.std.proofs.Common.{ℕ, ◌+◌, ◌*◌, ◌-◌, ◌≤◌, arith, eqb, length, get_or, take, drop, length-drop, get_or-take, length-take-le, eq-eqb, ◌≡◌, refl, sym, ap, ◌∙◌, Bool, true, false, cond, List}
+use Rattle.std.proofs.Math.ListN.{get_or-eq_default}
 use Rattle.blocks.specs.Frame.{block_size}
 use Rattle.kinds.specs.Known.{known, Told}
 use Rattle.book.specs.Book.{block_at, is_good, racks_of}

@@ -1,13 +1,6 @@
 -- The walk's code: the line that it reads, one more entry, and the list copied to the lent row.
-use Prim.Native.Nat.{ℕ, suc, ◌+◌, ◌*◌, ◌≤◌, ◌<◌}
-use native.Mathlib.Nat.{le_antisymm, zero-add}
-use native.Mathlib.Numerals.{add-one}
-use native.Mathlib.Omega.{arith}
-use lib.ListN.{length, get_or, take, drop, set, length-set}
-use lib.Seq.{paste-suc, take-suc-set}
-use mathlib.Core.Path.{◌≡◌, refl, sym, ap, subst, ◌∙◌}
-use mathlib.Core.Bool.{Bool, true, false, ◌||◌}
-use mathlib.Core.List.{List, ◌++◌}
+use Rattle.std.proofs.Common.{ℕ, suc, ◌+◌, ◌*◌, ◌≤◌, ◌<◌, le_antisymm, zero-add, add-one, arith, length, get_or, take, drop, set, length-set, take-suc-set, ◌≡◌, refl, sym, ap, subst, ◌∙◌, Bool, true, false, ◌||◌, List, ◌++◌}
+use Rattle.std.proofs.Math.Seq.{paste-suc}
 use Rattle.below.specs.Below.{any}
 use Rattle.below.proofs.Tests.{pick_yes, pick_no}
 use Rattle.below.proofs.Rows.{row_at}

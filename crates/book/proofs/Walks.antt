@@ -1,12 +1,6 @@
 -- The walk, turn by turn: what is left of the lines ahead gives the same list as all of them from the start.
-use Prim.Native.Nat.{ℕ, suc, ◌+◌, ◌*◌, ◌≤◌, ◌<◌}
-use native.Mathlib.Numerals.{add-one}
-use native.Mathlib.Omega.{arith}
-use lib.ListN.{length, take, drop, drop_of_length-le}
-use lib.Seq.{drop-cons}
-use mathlib.Core.Path.{◌≡◌, refl, sym, ap, subst, ◌∙◌}
-use mathlib.Core.Bool.{Bool, true, false, false≢true, true≢false}
-use mathlib.Core.List.{List, [], ◌∷◌, ◌++◌}
+use Rattle.std.proofs.Common.{ℕ, suc, ◌+◌, ◌*◌, ◌≤◌, ◌<◌, add-one, arith, length, take, drop, drop_of_length-le, drop-cons, ◌≡◌, refl, sym, ap, subst, ◌∙◌, Bool, true, false, true≢false, List, [], ◌∷◌, ◌++◌}
+use Rattle.std.proofs.Math.Bool.{false≢true}
 use Rattle.below.specs.Below.{row}
 use Rattle.below.proofs.Rows.{length-row, row_at}
 use Rattle.pages.specs.declared.line.Mark.{Mark}

@@ -1,13 +1,7 @@
 -- The C step, by the ways through its code.
-use Prim.Native.Nat.{ℕ}
-use native.Mathlib.Omega.{arith}
-use lib.Dec.{eqb}
-use lib.ListN.{length, take}
-use lib.Seq.{take_all}
-use borrow.Author.Tests.{eq-eqb, ne_eqb, eqb-true, eqb-false}
-use mathlib.Core.Path.{◌≡◌, refl, sym, ap, subst, ◌∙◌}
-use mathlib.Core.Bool.{Bool, true, false, cond, ◌&&◌, false≢true}
-use mathlib.Core.List.{List}
+use Rattle.std.proofs.Common.{ℕ, arith, eqb, length, take, take_all, eq-eqb, ne_eqb, eqb-true, ◌≡◌, refl, sym, ap, subst, ◌∙◌, Bool, true, false, cond, ◌&&◌, List}
+use borrow.Author.Tests.{eqb-false}
+use Rattle.std.proofs.Math.Bool.{false≢true}
 use Rattle.below.specs.Refusals.{unless, granted, bad_block, out_of_range}
 use Rattle.below.proofs.Tests.{and_left, and_right}
 use Rattle.rounds.specs.Setups.{setup_in_range}

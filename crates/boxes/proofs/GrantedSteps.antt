@@ -1,10 +1,6 @@
 -- What a granted step of a box says: the tests that held, the row and the message. A refused step gives the row back.
-use Prim.Native.Nat.{ℕ}
-use native.Mathlib.Omega.{arith}
+use Rattle.std.proofs.Common.{ℕ, arith, ◌≡◌, refl, sym, ap, subst, ◌∙◌, true, false, not, ◌&&◌, ◌||◌, ◌⊎◌, ⊎_elim}
 use borrow.Author.Tests.{not-true}
-use mathlib.Core.Path.{◌≡◌, refl, sym, ap, subst, ◌∙◌}
-use mathlib.Core.Bool.{true, false, not, ◌&&◌, ◌||◌}
-use mathlib.Core.Logic.{◌⊎◌, ⊎_elim}
 use Rattle.below.specs.Refusals.{unless, granted, wrong_message, wrong_round, already_done}
 use Rattle.below.proofs.Granted.{unless_held, unless_later, answer_granted, answer_refused, answer_number}
 use Rattle.below.proofs.Tests.{and_left, and_right, or_true_left, or_true_right}

@@ -1,10 +1,6 @@
 -- The rules are kept: a good row and a good message give, where the step is granted, a good row and a good message sent.
-use Prim.Native.Nat.{ℕ, ◌<◌}
-use native.Mathlib.Omega.{arith}
-use borrow.Author.Tests.{not-true, not-false, lt-ltb}
-use mathlib.Core.Path.{◌≡◌, refl, sym, ap, subst, ◌∙◌}
-use mathlib.Core.Bool.{Bool, true, false, cond, not, ◌&&◌, ◌||◌, true≢false}
-use mathlib.Core.Logic.{inl, inr, ⊎_elim}
+use Rattle.std.proofs.Common.{ℕ, ◌<◌, arith, lt-ltb, ◌≡◌, refl, sym, ap, subst, ◌∙◌, Bool, true, false, cond, not, ◌&&◌, ◌||◌, true≢false, inl, inr, ⊎_elim}
+use borrow.Author.Tests.{not-true, not-false}
 use Rattle.below.specs.Refusals.{granted}
 use Rattle.below.proofs.Tests.{and_true, and_left, and_right, and_false_left, not_true_false, or_true_right}
 use Rattle.pages.specs.declared.page.Page.{Page}

@@ -1,7 +1,5 @@
 -- A row keeps its shape, and what is sent has it: pages of 8 lines.
-use Prim.Native.Nat.{ℕ}
-use lib.Dec.{eqb}
-use mathlib.Core.Bool.{Bool, true, false, cond, not, ◌||◌}
+use Rattle.std.proofs.Common.{ℕ, eqb, Bool, true, false, cond, not, ◌||◌}
 use Rattle.below.specs.Refusals.{granted}
 use Rattle.pages.specs.declared.page.Page.{Page}
 use Rattle.pages.specs.Racks.{outside}

@@ -1,18 +1,18 @@
 -- Each public contract of this crate determines its answer.
-use mathlib.Core.Path.{sym, ◌∙◌}
+use Rattle.std.proofs.Common.{sym, ◌∙◌}
 use Rattle.below.proofs.Unique.{Determines}
-use Rattle.boxes.proofs.steps.join.Kinds as join-kinds
-use Rattle.boxes.proofs.steps.join.Reads as join-reads
-use Rattle.boxes.proofs.steps.take_page.Kinds as take-page-kinds
-use Rattle.boxes.proofs.steps.take_page.Reads as take-page-reads
-use Rattle.boxes.proofs.steps.take_reading.Kinds as take-reading-kinds
-use Rattle.boxes.proofs.steps.take_reading.Reads as take-reading-reads
+use Rattle.boxes.proofs.steps.join.Kinds as join_kinds
+use Rattle.boxes.proofs.steps.join.Reads as join_reads
+use Rattle.boxes.proofs.steps.take_page.Kinds as take_page_kinds
+use Rattle.boxes.proofs.steps.take_page.Reads as take_page_reads
+use Rattle.boxes.proofs.steps.take_reading.Kinds as take_reading_kinds
+use Rattle.boxes.proofs.steps.take_reading.Reads as take_reading_reads
 
-pub join_unique : Determines 0 join-kinds.ps join-kinds.r join-reads.Post
+pub join_unique : Determines 0 join_kinds.ps join_kinds.r join_reads.Post
 join_unique κs a x y s t p q = p ∙ sym q
 
-pub take_page_unique : Determines 0 take-page-kinds.ps take-page-kinds.r take-page-reads.Post
+pub take_page_unique : Determines 0 take_page_kinds.ps take_page_kinds.r take_page_reads.Post
 take_page_unique κs a x y s t p q = p ∙ sym q
 
-pub take_reading_unique : Determines 0 take-reading-kinds.ps take-reading-kinds.r take-reading-reads.Post
+pub take_reading_unique : Determines 0 take_reading_kinds.ps take_reading_kinds.r take_reading_reads.Post
 take_reading_unique κs a x y s t p q = p ∙ sym q

@@ -1,7 +1,5 @@
 -- Every marked case holds, over any readings V and W.
-use Prim.Native.Nat.{ℕ}
-use mathlib.Core.Path.{◌≡◌}
-use mathlib.Core.Bool.{true}
+use Rattle.std.proofs.Common.{ℕ, ◌≡◌, true}
 use Rattle.below.specs.Below.{all, any, count, row}
 use Rattle.pages.specs.declared.line.Reading.{Reading}
 use Rattle.pages.specs.Pages.{at, page, empty, prefix_of, compatible_of, union_of, join_of, nil_extension, trivial_of}

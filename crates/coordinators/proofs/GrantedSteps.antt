@@ -1,10 +1,6 @@
 -- What a granted step of a coordinator says: the tests that held, the row and the message. A refused step gives the row back.
-use Prim.Native.Nat.{ℕ, ◌≤◌}
-use native.Mathlib.Omega.{arith}
-use lib.Dec.{leb, eqb}
-use borrow.Author.Tests.{eqb-true, leb-true, not-true}
-use mathlib.Core.Path.{◌≡◌, refl, sym, ap, ◌∙◌}
-use mathlib.Core.Bool.{Bool, true, false, not, ◌&&◌}
+use Rattle.std.proofs.Common.{ℕ, ◌≤◌, arith, leb, eqb, eqb-true, leb-true, ◌≡◌, refl, sym, ap, ◌∙◌, Bool, true, false, not, ◌&&◌}
+use borrow.Author.Tests.{not-true}
 use Rattle.below.specs.Refusals.{unless, granted, wrong_round, already_done, no_majority, lines_clash}
 use Rattle.below.proofs.Granted.{unless_held, unless_later, answer_granted, answer_refused, answer_number}
 use Rattle.below.proofs.Tests.{and_left, and_right}

@@ -1,9 +1,6 @@
 -- The highest vrnd that has any vote: where there is a vote there is one that no other overtakes.
-use Prim.Native.Nat.{ℕ, zero, suc, ◌<◌}
-use native.Mathlib.Omega.{arith}
-use mathlib.Core.Path.{◌≡◌, refl, sym, ap, subst, ◌∙◌}
-use mathlib.Core.Bool.{Bool, true, false, not, true≢false, false≢true}
-use mathlib.Core.Logic.{⊎_elim}
+use Rattle.std.proofs.Common.{ℕ, zero, suc, ◌<◌, arith, ◌≡◌, refl, sym, ap, subst, ◌∙◌, Bool, true, false, not, true≢false, ⊎_elim}
+use Rattle.std.proofs.Math.Bool.{false≢true}
 use borrow.Author.Tests.{not-true}
 use Rattle.below.specs.Below.{any}
 use Rattle.below.proofs.Tests.{and_left, and_right, and_true, decided, below_suc, any_none, any_false, or_cases, not_true_false}

@@ -1,10 +1,7 @@
 -- The join of the votes that take part: it is there exactly if they are compatible, it is above each of them, and each of its lines is
 -- a line of one of them.
-use Prim.Native.Nat.{ℕ, zero, suc, ◌<◌}
-use native.Mathlib.Omega.{arith}
-use mathlib.Core.Path.{◌≡◌, refl, sym, ap, subst, ◌∙◌}
-use mathlib.Core.Bool.{Bool, true, false, cond, ◌&&◌, true≢false, false≢true}
-use mathlib.Core.Logic.{◌⊎◌, inl, inr, ⊎_elim}
+use Rattle.std.proofs.Common.{ℕ, zero, suc, ◌<◌, arith, ◌≡◌, refl, sym, ap, subst, ◌∙◌, Bool, true, false, cond, ◌&&◌, true≢false, ◌⊎◌, inl, inr, ⊎_elim}
+use Rattle.std.proofs.Math.Bool.{false≢true}
 use Rattle.below.proofs.Tests.{decided, below_suc, or_true_left, and_true, all_fails, not_true_false}
 use Rattle.pages.specs.declared.line.Mark.{Mark}
 use Rattle.pages.specs.declared.page.Page.{Page}

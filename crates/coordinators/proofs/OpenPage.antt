@@ -1,10 +1,6 @@
 -- The page that opens a round, line by line: with no vote it is the empty page; else the present line of a vote of the highest vrnd,
 -- Nil where all of them are absent; and 9 is given exactly if two of them are not compatible.
-use Prim.Native.Nat.{ℕ, ◌≤◌, ◌<◌}
-use borrow.Author.Tests.{lt-ltb, le-ltb}
-use mathlib.Core.Path.{◌≡◌, refl, sym, ap, subst, ◌∙◌}
-use mathlib.Core.Bool.{Bool, true, false, cond, true≢false}
-use mathlib.Core.Logic.{⊎_elim, ◌↔◌}
+use Rattle.std.proofs.Common.{ℕ, ◌≤◌, ◌<◌, lt-ltb, le-ltb, ◌≡◌, refl, sym, ap, subst, ◌∙◌, Bool, true, false, cond, true≢false, ⊎_elim, ◌↔◌}
 use Rattle.below.proofs.Tests.{decided, not_false_true}
 use Rattle.pages.specs.declared.line.Mark.{Mark}
 use Rattle.pages.specs.declared.line.Mark.TheVariants.{Absent, Nil}

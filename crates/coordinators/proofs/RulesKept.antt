@@ -1,12 +1,7 @@
 -- The rules are kept: a good row and a good message give, where the step is granted, a good row and a good message sent.
-use Prim.Native.Nat.{ℕ, ◌<◌}
-use native.Mathlib.Omega.{arith}
-use native.Mathlib.Decide.{dec_lt}
-use lib.Dec.{ltb, eqb}
-use borrow.Author.Tests.{not-true, lt-ltb, eq-eqb}
-use mathlib.Core.Path.{◌≡◌, refl, sym, ap, subst, ◌∙◌}
-use mathlib.Core.Bool.{Bool, true, false, cond, not, ◌&&◌, ◌||◌, true≢false}
-use mathlib.Core.Logic.{◌⊎◌, inl, inr, ⊎_elim}
+use Rattle.std.proofs.Common.{ℕ, ◌<◌, arith, ltb, eqb, lt-ltb, eq-eqb, ◌≡◌, refl, sym, ap, subst, ◌∙◌, Bool, true, false, cond, not, ◌&&◌, ◌||◌, true≢false, ◌⊎◌, inl, inr, ⊎_elim}
+use Rattle.std.proofs.Math.Decide.{dec_lt}
+use borrow.Author.Tests.{not-true}
 use Rattle.below.specs.Refusals.{granted}
 use Rattle.below.proofs.Tests.{and_true, and_left, and_right, or_true_right, not_true_false, all_at, all_true}
 use Rattle.below.proofs.Counts.{count_some}

@@ -1,10 +1,5 @@
 -- A row keeps its shape, and what is sent has it: 5 slots for boxes, pages of 8 lines.
-use Prim.Native.Nat.{ℕ, ◌<◌}
-use lib.Dec.{eqb}
-use lib.ListN.{length, length-set}
-use mathlib.Core.Path.{◌≡◌, ap, ◌∙◌}
-use mathlib.Core.Bool.{Bool, true, false, cond}
-use mathlib.Core.Logic.{⊎_elim}
+use Rattle.std.proofs.Common.{ℕ, ◌<◌, eqb, length, length-set, ◌≡◌, ap, ◌∙◌, Bool, true, false, cond, ⊎_elim}
 use Rattle.below.specs.Refusals.{granted}
 use Rattle.below.proofs.Rows.{length-row, row_at}
 use Rattle.pages.specs.Racks.{racks_below}

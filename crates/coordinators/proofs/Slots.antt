@@ -1,15 +1,8 @@
 -- The slots of a row: a box that no row has a slot for, a slot after one was set, and the loop that joins the votes.
-use Prim.Native.Nat.{ℕ, ◌+◌, ◌≤◌, ◌<◌}
-use native.Mathlib.Omega.{arith}
-use native.Mathlib.Decide.{dec_lt, ℕ_discrete}
-use native.Mathlib.Numerals.{add-one}
-use native.Mathlib.Nat.{le_antisymm}
-use lib.ListN.{length, get_or, set, get_or-eq_default}
-use lib.Seq.{set_out, get_or-set_same, get_or-set_other}
-use mathlib.Core.Path.{◌≡◌, sym, ap, subst, ◌∙◌}
-use mathlib.Core.List.{List}
-use mathlib.Core.Logic.{◌⊎◌, inl, inr}
-use mathlib.Core.Bool.{Bool, true, false}
+use Rattle.std.proofs.Common.{ℕ, ◌+◌, ◌≤◌, ◌<◌, arith, add-one, le_antisymm, length, get_or, set, get_or-set_same, get_or-set_other, ◌≡◌, sym, ap, subst, ◌∙◌, List, ◌⊎◌, inl, inr, Bool, true, false}
+use Rattle.std.proofs.Math.Decide.{dec_lt, ℕ_discrete}
+use Rattle.std.proofs.Math.ListN.{get_or-eq_default}
+use Rattle.std.proofs.Math.Seq.{set_out}
 use Rattle.pages.specs.declared.page.Page.{Page}
 use Rattle.pages.specs.declared.page.Vote.{Vote}
 use Rattle.rounds.specs.Setups.{most_boxes}

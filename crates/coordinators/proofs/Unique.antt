@@ -1,18 +1,18 @@
 -- Each public contract of this crate determines its answer.
-use mathlib.Core.Path.{sym, ◌∙◌}
+use Rattle.std.proofs.Common.{sym, ◌∙◌}
 use Rattle.below.proofs.Unique.{Determines}
-use Rattle.coordinators.proofs.steps.start.Kinds as start-kinds
-use Rattle.coordinators.proofs.steps.start.Reads as start-reads
-use Rattle.coordinators.proofs.steps.hear.Kinds as hear-kinds
-use Rattle.coordinators.proofs.steps.hear.Reads as hear-reads
-use Rattle.coordinators.proofs.steps.open.Kinds as open-kinds
-use Rattle.coordinators.proofs.steps.open.Reads as open-reads
+use Rattle.coordinators.proofs.steps.start.Kinds as start_kinds
+use Rattle.coordinators.proofs.steps.start.Reads as start_reads
+use Rattle.coordinators.proofs.steps.hear.Kinds as hear_kinds
+use Rattle.coordinators.proofs.steps.hear.Reads as hear_reads
+use Rattle.coordinators.proofs.steps.open.Kinds as open_kinds
+use Rattle.coordinators.proofs.steps.open.Reads as open_reads
 
-pub start_unique : Determines 0 start-kinds.ps start-kinds.r start-reads.Post
+pub start_unique : Determines 0 start_kinds.ps start_kinds.r start_reads.Post
 start_unique κs a x y s t p q = p ∙ sym q
 
-pub hear_unique : Determines 0 hear-kinds.ps hear-kinds.r hear-reads.Post
+pub hear_unique : Determines 0 hear_kinds.ps hear_kinds.r hear_reads.Post
 hear_unique κs a x y s t p q = p ∙ sym q
 
-pub open_unique : Determines 0 open-kinds.ps open-kinds.r open-reads.Post
+pub open_unique : Determines 0 open_kinds.ps open_kinds.r open_reads.Post
 open_unique κs a x y s t p q = p ∙ sym q

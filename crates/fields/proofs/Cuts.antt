@@ -1,12 +1,7 @@
 -- The n bytes at a place, as a list of length n whatever the surroundings; and lists that agree part by part.
-use Prim.Native.Nat.{ℕ, ◌+◌, ◌-◌, ◌<◌}
-use native.Mathlib.Omega.{arith}
-use native.Mathlib.Nat.{zero-add}
-use native.Mathlib.Decide.{dec_lt}
-use mathlib.Core.Path.{◌≡◌, refl, sym, ap, subst, ◌∙◌}
-use mathlib.Core.List.{List, ◌++◌}
-use lib.ListN.{length, take, drop, get_or-append, length-append}
-use lib.Seq.{take_at, drop_at, get_or-append-add, ext_get_or}
+use Rattle.std.proofs.Common.{ℕ, ◌+◌, ◌-◌, ◌<◌, arith, zero-add, ◌≡◌, refl, sym, ap, subst, ◌∙◌, List, ◌++◌, length, take, drop, length-append, take_at, drop_at, get_or-append-add, ext_get_or}
+use Rattle.std.proofs.Math.Decide.{dec_lt}
+use Rattle.std.proofs.Math.ListN.{get_or-append}
 use Rattle.below.specs.Below.{row}
 use Rattle.below.proofs.Rows.{length-row, row_at, row_same, row_of_list}
 use Rattle.words.specs.Bytes.{byte}

@@ -1,10 +1,5 @@
 -- Which values fit their field, and that every field of the layout is lawful.
-use Prim.Native.Nat.{ℕ, zero, suc, ◌≤◌, ◌<◌}
-use native.Mathlib.Omega.{arith}
-use lib.Dec.{eqb, leb}
-use mathlib.Core.Path.{◌≡◌, refl, sym, ap, subst, ◌∙◌}
-use mathlib.Core.Bool.{Bool, true, false, cond}
-use borrow.Author.Tests.{eqb-true, eq-eqb, leb-true, le-leb, ne_eqb}
+use Rattle.std.proofs.Common.{ℕ, zero, suc, ◌≤◌, ◌<◌, arith, eqb, leb, ◌≡◌, refl, sym, ap, subst, ◌∙◌, Bool, true, false, cond, eqb-true, eq-eqb, leb-true, le-leb, ne_eqb}
 use Rattle.below.proofs.Tests.{and_left}
 use Rattle.pages.specs.declared.line.Reading
 use Rattle.pages.specs.declared.line.Mark.{Mark}

@@ -1,9 +1,5 @@
 -- What was read part by part, as the whole value.
-use Prim.Native.Nat.{ℕ, ◌+◌}
-use lib.Dec.{eqb, leb}
-use mathlib.Core.Path.{◌≡◌, refl, ap, ◌∙◌}
-use mathlib.Core.Bool.{Bool, true, false, ◌&&◌}
-use mathlib.Core.List.{List}
+use Rattle.std.proofs.Common.{ℕ, ◌+◌, eqb, leb, ◌≡◌, refl, ap, ◌∙◌, Bool, true, false, ◌&&◌, List}
 use Rattle.pages.specs.declared.line.Reading.{Reading}
 use Rattle.pages.specs.declared.line.Line.{Line}
 use Rattle.pages.specs.declared.line.Mark.TheVariants.{Absent}

@@ -1,12 +1,5 @@
 -- Values one behind the other: the law of `times`, and the loops that read and write them.
-use Prim.Native.Nat.{ℕ, zero, suc, ◌+◌, ◌*◌, ◌≤◌, ◌<◌}
-use native.Mathlib.Omega.{arith}
-use native.Mathlib.Nat.{le_antisymm, mul-zero}
-use native.Mathlib.Numerals.{add-one}
-use mathlib.Core.Path.{◌≡◌, refl, sym, ap, subst, ◌∙◌}
-use mathlib.Core.Bool.{Bool, true, ◌&&◌}
-use mathlib.Core.List.{List, [], ◌++◌}
-use lib.ListN.{length, get_or, set, length-append}
+use Rattle.std.proofs.Common.{ℕ, zero, suc, ◌+◌, ◌*◌, ◌≤◌, ◌<◌, arith, le_antisymm, mul-zero, add-one, ◌≡◌, refl, sym, ap, subst, ◌∙◌, Bool, true, ◌&&◌, List, [], ◌++◌, length, get_or, set, length-append, ⊎_elim}
 use Rattle.below.specs.Below.{all, row}
 use Rattle.below.proofs.Tests.{all_at, all_true, below_suc}
 use Rattle.below.proofs.Rows.{length-row, row_at, row_same, row_of_list, filled, filled_more, filled_ends}
@@ -15,7 +8,6 @@ use Rattle.words.proofs.Splices.{next, splice_none}
 use Rattle.fields.specs.Codecs.{Codec, run, times, Got}
 use Rattle.fields.proofs.Cuts.{cut, length_cut, cut_parts, front_same, rest_same}
 use Rattle.fields.proofs.Lawful.{Lawful, small_join}
-use mathlib.Core.Logic.{⊎_elim}
 
 -- runs of pieces of one size
 pub length_run : (size n : ℕ) (f : ℕ → List ℕ) → ((k : ℕ) → length (f k) ≡ size) → length (run n f) ≡ size * n

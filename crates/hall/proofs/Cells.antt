@@ -1,12 +1,7 @@
 -- Laws of cells: what a hall holds at a place after a block is put at one, and what a run of blocks holds.
-use Prim.Native.Nat.{ℕ, zero, suc, ◌+◌, ◌*◌, ◌-◌, ◌≤◌, ◌<◌}
-use native.Mathlib.Omega.{arith}
-use native.Mathlib.Decide.{dec_lt}
-use mathlib.Core.Path.{◌≡◌, sym, ap, subst, ◌∙◌}
-use mathlib.Core.Logic.{◌≢◌, ⊎_elim}
-use mathlib.Core.List.{List, ◌++◌}
-use lib.ListN.{length, get_or, take, drop, length-drop}
-use lib.Seq.{length-take-le, take_all, take-append-le, drop-append-le, take_at, drop_at, get_or-take, get_or-drop, ext_get_or}
+use Rattle.std.proofs.Common.{ℕ, zero, suc, ◌+◌, ◌*◌, ◌-◌, ◌≤◌, ◌<◌, arith, ◌≡◌, sym, ap, subst, ◌∙◌, ◌≢◌, ⊎_elim, List, ◌++◌, length, get_or, take, drop, length-drop, length-take-le, take_all, take_at, drop_at, get_or-take, get_or-drop, ext_get_or}
+use Rattle.std.proofs.Math.Decide.{dec_lt}
+use Rattle.std.proofs.Math.Seq.{take-append-le, drop-append-le}
 use Rattle.below.proofs.Tests.{below_suc}
 use Rattle.words.specs.Bytes.{splice}
 use Rattle.words.proofs.Splices.{length-splice, splice_before, splice_after}

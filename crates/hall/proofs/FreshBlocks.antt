@@ -1,17 +1,9 @@
 -- The block at each place of a fresh hall, by the ways through the code, and their lengths.
-use Prim.Native.Nat.{ℕ, ◌+◌, ◌*◌, ◌-◌, ◌≤◌, ◌<◌}
-use native.Mathlib.Nat.{le_antisymm}
-use native.Mathlib.Numerals.{add-one}
-use native.Mathlib.Omega.{arith}
-use lib.Arith.{lt-one}
-use lib.Dec.{ltb}
-use lib.ListN.{length, drop, length-append, length-drop, length-replicate, drop_of_length-le}
-use lib.Seq.{take_at, drop-append-add, drop-drop}
+use Rattle.std.proofs.Common.{ℕ, ◌+◌, ◌*◌, ◌-◌, ◌≤◌, ◌<◌, le_antisymm, add-one, arith, ltb, length, drop, length-append, length-drop, drop_of_length-le, take_at, drop-drop, lt-ltb, le-ltb, ◌≡◌, sym, ap, ◌∙◌, Bool, true, false, cond, List, ◌++◌, append_assoc, append-nil}
+use Rattle.std.proofs.Math.Arith.{lt-one}
+use Rattle.std.proofs.Math.ListN.{length-replicate}
+use Rattle.std.proofs.Math.Seq.{drop-append-add}
 use borrow.Rule.Slice.PartMut.{put_mid, Post-is}
-use borrow.Author.Tests.{lt-ltb, le-ltb}
-use mathlib.Core.Path.{◌≡◌, sym, ap, ◌∙◌}
-use mathlib.Core.Bool.{Bool, true, false, cond}
-use mathlib.Core.List.{List, ◌++◌, append_assoc, append-nil}
 use Rattle.rounds.specs.declared.setup.Setup.{Setup}
 use Rattle.words.specs.Bytes.{zeros}
 use Rattle.fields.specs.Codecs.{run}

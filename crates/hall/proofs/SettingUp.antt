@@ -1,12 +1,6 @@
 -- Setup, by the ways through its code; and that numbers in range fit the bytes they are kept in.
-use Prim.Native.Nat.{ℕ}
-use native.Mathlib.Omega.{arith}
-use lib.Dec.{leb}
-use lib.ListN.{length}
-use borrow.Author.Tests.{eq-eqb, ne_eqb, leb-true, not-true, not-false}
-use mathlib.Core.Path.{◌≡◌, sym, ap, ◌∙◌}
-use mathlib.Core.Bool.{Bool, true, false, not, ◌&&◌}
-use mathlib.Core.List.{List}
+use Rattle.std.proofs.Common.{ℕ, arith, leb, length, eq-eqb, ne_eqb, leb-true, ◌≡◌, sym, ap, ◌∙◌, Bool, true, false, not, ◌&&◌, List}
+use borrow.Author.Tests.{not-true, not-false}
 use mir.Syntax.{w16}
 use mir.Val.{Fits}
 use Rattle.below.proofs.Tests.{and_left, and_right}

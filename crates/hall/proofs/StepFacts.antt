@@ -1,10 +1,7 @@
 -- What is known where a step exists, and where a number that stands for itself is 0.
-use Prim.Native.Nat.{ℕ, ◌≤◌, ◌<◌}
-use lib.Dec.{eqb, ltb}
-use borrow.Author.Tests.{eqb-true, eqb-false, ltb-true, leb-true}
-use mathlib.Core.Path.{◌≡◌, refl, sym, ap, ◌∙◌}
-use mathlib.Core.Bool.{Bool, true, false, not, ◌&&◌, ◌||◌, false≢true}
-use mathlib.Core.Logic.{⊎_elim}
+use Rattle.std.proofs.Common.{ℕ, ◌≤◌, ◌<◌, eqb, ltb, eqb-true, ltb-true, leb-true, ◌≡◌, refl, sym, ap, ◌∙◌, Bool, true, false, not, ◌&&◌, ◌||◌, ⊎_elim}
+use borrow.Author.Tests.{eqb-false}
+use Rattle.std.proofs.Math.Bool.{false≢true}
 use Rattle.below.specs.Refusals.{unless, granted}
 use Rattle.below.proofs.Tests.{and_left, and_right, or_cases}
 use Rattle.rounds.specs.declared.setup.Setup.{Setup}

@@ -1,11 +1,6 @@
 -- Whatever a granted act writes is a block.
-use Prim.Native.Nat.{ℕ}
-use native.Mathlib.Omega.{arith}
-use lib.Dec.{eqb}
-use lib.ListN.{length}
-use mathlib.Core.Path.{◌≡◌}
-use mathlib.Core.Bool.{Bool, true, false, cond, ◌&&◌, false≢true}
-use mathlib.Core.List.{List}
+use Rattle.std.proofs.Common.{ℕ, arith, eqb, length, ◌≡◌, Bool, true, false, cond, ◌&&◌, List}
+use Rattle.std.proofs.Math.Bool.{false≢true}
 use Rattle.below.specs.Refusals.{granted, wrong_message}
 use Rattle.rounds.specs.declared.round.Round.{Round}
 use Rattle.records.specs.declared.stamp.Stamp.{Stamp}

@@ -1,11 +1,6 @@
 -- The hall's step as far as the head and the numbers say: 1, 2, 4 and 11, or on to the blocks that it names.
-use Prim.Native.Nat.{ℕ}
-use native.Mathlib.Omega.{arith}
-use lib.ListN.{length}
-use borrow.Author.Tests.{eq-eqb, not-true, not-false}
-use mathlib.Core.Path.{◌≡◌, refl, sym, ap, ◌∙◌}
-use mathlib.Core.Bool.{Bool, true, false, cond, not}
-use mathlib.Core.List.{List}
+use Rattle.std.proofs.Common.{ℕ, arith, length, eq-eqb, ◌≡◌, refl, sym, ap, ◌∙◌, Bool, true, false, cond, not, List}
+use borrow.Author.Tests.{not-true, not-false}
 use Rattle.records.specs.declared.stamp.Stamp.{Stamp}
 use Rattle.records.specs.declared.rows.Head.{Head}
 use Rattle.blocks.specs.Kinds.{good}

@@ -1,12 +1,6 @@
 -- A block of the hall as a part of the lent bytes: what it holds, and what the hall holds once it is written.
-use Prim.Native.Nat.{ℕ, ◌+◌, ◌*◌, ◌-◌, ◌<◌}
-use native.Mathlib.Omega.{arith}
-use native.Mathlib.Nat.{mul_comm}
+use Rattle.std.proofs.Common.{ℕ, ◌+◌, ◌*◌, ◌-◌, ◌<◌, arith, mul_comm, length, take, drop, length-drop, length-take-le, ◌≡◌, ap, ◌∙◌, List, ◌++◌}
 use borrow.Rule.Slice.PartMut.{put_mid, Post-is}
-use lib.ListN.{length, take, drop, length-drop}
-use lib.Seq.{length-take-le}
-use mathlib.Core.Path.{◌≡◌, ap, ◌∙◌}
-use mathlib.Core.List.{List, ◌++◌}
 use Rattle.words.specs.Bytes.{splice}
 use Rattle.blocks.specs.Frame.{block_size}
 use Rattle.hall.specs.Halls.{hall_size, blocks_of_hall, block_at}

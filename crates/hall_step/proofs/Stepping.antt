@@ -1,13 +1,6 @@
 -- The hall's step, by the ways through its code.
-use Prim.Native.Nat.{ℕ, ◌+◌, ◌≤◌, ◌<◌}
-use native.Mathlib.Omega.{arith}
-use lib.Dec.{eqb, leb}
-use lib.ListN.{length}
-use borrow.Author.Tests.{eq-eqb, ne_eqb, ltb-true, leb-true}
-use mathlib.Core.Path.{◌≡◌, refl, sym, ap, subst, ◌∙◌}
-use mathlib.Core.Bool.{Bool, true, false, cond, not, false≢true}
-use mathlib.Core.Logic.{⊎_elim}
-use mathlib.Core.List.{List}
+use Rattle.std.proofs.Common.{ℕ, ◌+◌, ◌≤◌, ◌<◌, arith, eqb, leb, length, eq-eqb, ne_eqb, ltb-true, leb-true, ◌≡◌, refl, sym, ap, subst, ◌∙◌, Bool, true, false, cond, not, ⊎_elim, List}
+use Rattle.std.proofs.Math.Bool.{false≢true}
 use Rattle.below.specs.Refusals.{unless, granted, post_full}
 use Rattle.below.proofs.Tests.{and_left, and_right, or_cases}
 use borrow.Rule.Slice.PartMut.{put_mid}

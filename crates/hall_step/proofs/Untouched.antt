@@ -1,13 +1,5 @@
 -- On any bytes, a step changes no block but its row, the next message and the head, and the hall keeps its length.
-use Prim.Native.Nat.{ℕ, ◌+◌, ◌<◌}
-use native.Mathlib.Omega.{arith}
-use lib.Dec.{eqb}
-use lib.ListN.{length}
-use borrow.Author.Tests.{eqb-true, ltb-true}
-use mathlib.Core.Path.{◌≡◌, refl, sym, ap, ◌∙◌}
-use mathlib.Core.Logic.{◌≢◌}
-use mathlib.Core.Bool.{Bool, true, false, cond, not, ◌||◌}
-use mathlib.Core.List.{List}
+use Rattle.std.proofs.Common.{ℕ, ◌+◌, ◌<◌, arith, eqb, length, eqb-true, ltb-true, ◌≡◌, refl, sym, ap, ◌∙◌, ◌≢◌, Bool, true, false, cond, not, ◌||◌, List}
 use Rattle.below.specs.Refusals.{unless, granted, wrong_length, bad_block, other_hall, no_such_step, post_full, out_of_range}
 use Rattle.below.proofs.Granted.{unless_held, unless_later}
 use Rattle.blocks.specs.Frame.{block_size}

@@ -1,11 +1,6 @@
 -- What is choosable later was choosable before; what is chosen is choosable.
-use Prim.Native.Nat.{ℕ, ◌≤◌, ◌<◌}
-use native.Mathlib.Omega.{arith}
-use native.Mathlib.Nat.{le_trans}
-use native.Mathlib.Decide.{dec_lt}
-use mathlib.Core.Path.{refl, sym, ap, ◌∙◌}
-use mathlib.Core.Bool.{true≢false}
-use mathlib.Core.Logic.{◌⊎◌, inl, inr}
+use Rattle.std.proofs.Common.{ℕ, ◌≤◌, ◌<◌, arith, le_trans, refl, sym, ap, ◌∙◌, true≢false, ◌⊎◌, inl, inr}
+use Rattle.std.proofs.Math.Decide.{dec_lt}
 use Rattle.below.proofs.Tests.{not_true_false}
 use Rattle.pages.specs.declared.line.Mark.{Mark}
 use Rattle.pages.specs.Lines.{is_reading}

@@ -1,6 +1,5 @@
 -- A chosen line stays chosen.
-use Prim.Native.Nat.{ℕ}
-use mathlib.Core.Path.{refl}
+use Rattle.std.proofs.Common.{ℕ, refl}
 use Rattle.pages.specs.declared.line.Mark.{Mark}
 use Rattle.pages.specs.declared.line.Mark.TheVariants.{Nil}
 use Rattle.history.specs.History.{History, Blank, Bears, Chosen, Grows}

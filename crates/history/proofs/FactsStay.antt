@@ -1,8 +1,5 @@
 -- What a history says of an offer, a vote, an opening or a report stays true as it grows.
-use Prim.Native.Nat.{ℕ, ◌<◌}
-use native.Mathlib.Nat.{le_trans}
-use mathlib.Core.Path.{◌≡◌, refl, sym, ◌∙◌}
-use mathlib.Core.Bool.{Bool, true, false, cond}
+use Rattle.std.proofs.Common.{ℕ, ◌<◌, le_trans, ◌≡◌, refl, sym, ◌∙◌, Bool, true, false, cond}
 use Rattle.pages.specs.declared.line.Reading.{Reading}
 use Rattle.pages.specs.declared.line.Mark.TheVariants.{Nil}
 use Rattle.pages.specs.declared.page.Page.{Page}

@@ -1,11 +1,7 @@
 -- The history of a freshly set up hall is sound: nobody voted, and every box is past the rounds below Zero's number.
-use Prim.Native.Nat.{ℕ, ◌≤◌, ◌<◌}
-use native.Mathlib.Omega.{arith}
-use mathlib.Core.Path.{ap}
-use mathlib.Core.Bool.{false≢true}
-use mathlib.Core.Logic.{⊎_elim}
+use Rattle.std.proofs.Common.{ℕ, ◌≤◌, ◌<◌, arith, ap, ⊎_elim, []}
+use Rattle.std.proofs.Math.Bool.{false≢true}
 use mathlib.Core.List.Memᴰ
-use mathlib.Core.List.{[]}
 use Rattle.pages.specs.declared.line.Mark.{Mark}
 use Rattle.pages.specs.Lines.{is_reading}
 use Rattle.pages.specs.Racks.{most_racks}

@@ -1,6 +1,5 @@
 -- Histories grow step by step: from any moment to itself, and on from a later one.
-use native.Mathlib.Nat.{le_refl, le_trans}
-use mathlib.Core.Path.{refl, ◌∙◌}
+use Rattle.std.proofs.Common.{le_refl, le_trans, refl, ◌∙◌}
 use Rattle.history.specs.History.{History, Grows}
 
 pub grows_refl : (H : History) → Grows H H

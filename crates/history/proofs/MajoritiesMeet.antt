@@ -1,6 +1,5 @@
 -- Two majorities share a box.
-use Prim.Native.Nat.{ℕ, ◌<◌}
-use native.Mathlib.Omega.{arith}
+use Rattle.std.proofs.Common.{ℕ, ◌<◌, arith}
 use Rattle.below.proofs.Counts.{count_some, counts_meet}
 use Rattle.history.specs.History.{Most}
 

@@ -1,11 +1,6 @@
 -- The racks of a hall are never all chosen blank: a vote of the highest of the rounds has a reading.
-use Prim.Native.Nat.{ℕ, zero, suc, ◌≤◌, ◌<◌}
-use native.Mathlib.Omega.{arith}
-use native.Mathlib.Nat.{le_refl, le_trans}
-use native.Mathlib.Decide.{dec_lt}
-use mathlib.Core.Path.{◌≡◌, refl, sym, ap, subst, ◌∙◌}
-use mathlib.Core.Bool.{true, true≢false}
-use mathlib.Core.Logic.{⊎_elim}
+use Rattle.std.proofs.Common.{ℕ, zero, suc, ◌≤◌, ◌<◌, arith, le_refl, le_trans, ◌≡◌, refl, sym, ap, subst, ◌∙◌, true, true≢false, ⊎_elim}
+use Rattle.std.proofs.Math.Decide.{dec_lt}
 use Rattle.below.proofs.Tests.{below_suc}
 use Rattle.pages.specs.declared.line.Mark.TheVariants.{Nil}
 use Rattle.pages.specs.Lines.{is_reading}

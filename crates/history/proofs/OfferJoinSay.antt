@@ -1,8 +1,5 @@
 -- The moves of racks and of joining boxes: an offer, a higher round, a proposal.
-use Prim.Native.Nat.{ℕ, ◌≤◌}
-use native.Mathlib.Nat.{le_refl}
-use mathlib.Core.Path.{◌≡◌, refl, sym, ◌∙◌}
-use mathlib.Core.Logic.{◌⊎◌, inl, inr}
+use Rattle.std.proofs.Common.{ℕ, ◌≤◌, le_refl, ◌≡◌, refl, sym, ◌∙◌, ◌⊎◌, inl, inr}
 use mathlib.Core.List.Memᴰ
 use Rattle.pages.specs.declared.line.Reading.{Reading}
 use Rattle.pages.specs.declared.line.Mark.{Mark}

@@ -1,8 +1,5 @@
 -- The moves of an opening coordinator (step 5): with the empty page, or with the page gathered from the highest votes.
-use Prim.Native.Nat.{ℕ, ◌<◌}
-use native.Mathlib.Nat.{le_refl}
-use mathlib.Core.Path.{◌≡◌, refl, sym, ap, ◌∙◌}
-use mathlib.Core.Bool.{true, false, true≢false}
+use Rattle.std.proofs.Common.{ℕ, ◌<◌, le_refl, ◌≡◌, refl, sym, ap, ◌∙◌, true, false, true≢false}
 use Rattle.pages.specs.declared.line.Mark.{Mark}
 use Rattle.pages.specs.declared.page.Page.{Page}
 use Rattle.history.specs.History.{Opened, shut, free, fixed, is_shut, History, Choosable, Grows, Present}

@@ -1,11 +1,6 @@
 -- What step 5 opens a round with is safe (Proposition 2 of 004): it has every line that is still choosable below.
-use Prim.Native.Nat.{ℕ, ◌≤◌, ◌<◌}
-use native.Mathlib.Omega.{arith}
-use native.Mathlib.Nat.{le_trans}
-use native.Mathlib.Decide.{dec_lt}
-use mathlib.Core.Path.{◌≡◌, refl, sym, ap, subst, ◌∙◌}
-use mathlib.Core.Bool.{true, false}
-use mathlib.Core.Logic.{inl, inr, ⊎_elim}
+use Rattle.std.proofs.Common.{ℕ, ◌≤◌, ◌<◌, arith, le_trans, ◌≡◌, refl, sym, ap, subst, ◌∙◌, true, false, inl, inr, ⊎_elim}
+use Rattle.std.proofs.Math.Decide.{dec_lt}
 use mathlib.Core.List.Memᴰ
 use Rattle.below.proofs.Tests.{decided}
 use Rattle.pages.specs.declared.line.Reading.{Reading}

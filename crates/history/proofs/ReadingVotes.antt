@@ -1,13 +1,7 @@
 -- The vote of step 10 is a vote of its free round, and extends the box's earlier ones there.
-use Prim.Native.Nat.{ℕ, ◌≤◌, ◌<◌}
-use native.Mathlib.Nat.{le_trans}
-use lib.Dec.{eqb, ltb}
-use mathlib.Core.Path.{◌≡◌, refl, sym, ap, ◌∙◌}
-use mathlib.Core.Bool.{true}
-use mathlib.Core.Logic.{⊎_elim}
+use Rattle.std.proofs.Common.{ℕ, ◌≤◌, ◌<◌, le_trans, eqb, ltb, ◌≡◌, refl, sym, ap, ◌∙◌, true, ⊎_elim, List, [], ◌∷◌, eqb-true, ltb-true}
 use mathlib.Core.List.Memᴰ
-use mathlib.Core.List.{List, [], ◌∷◌}
-use borrow.Author.Tests.{eqb-true, ltb-true, not-true}
+use borrow.Author.Tests.{not-true}
 use Rattle.below.proofs.Tests.{and_left, and_right}
 use Rattle.pages.specs.declared.line.Reading.{Reading}
 use Rattle.pages.specs.declared.line.Mark.{Mark}

@@ -1,8 +1,6 @@
 -- A move that opens no round keeps the history sound if its new votes fit and extend the older ones, and its new
 -- readings were offered.
-use Prim.Native.Nat.{ℕ}
-use mathlib.Core.Path.{◌≡◌}
-use mathlib.Core.Logic.{◌⊎◌, ⊎_elim}
+use Rattle.std.proofs.Common.{ℕ, ◌≡◌, ◌⊎◌, ⊎_elim}
 use Rattle.pages.specs.declared.line.Reading.{Reading}
 use Rattle.pages.specs.declared.line.Mark.TheVariants.{Reading as reads}
 use Rattle.pages.specs.declared.page.Page.{Page}

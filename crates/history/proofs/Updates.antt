@@ -1,11 +1,5 @@
 -- What holds of a function changed at one place: of the new value there, and of the old ones.
-use Prim.Native.Nat.{ℕ, ◌≤◌}
-use native.Mathlib.Nat.{le_refl}
-use lib.Dec.{eqb}
-use mathlib.Core.Path.{◌≡◌, refl}
-use mathlib.Core.Bool.{Bool, true, false, cond, ◌&&◌}
-use mathlib.Core.Logic.{◌≢◌}
-use borrow.Author.Tests.{eqb-true, eq-eqb}
+use Rattle.std.proofs.Common.{ℕ, ◌≤◌, le_refl, eqb, ◌≡◌, refl, Bool, true, false, cond, ◌&&◌, ◌≢◌, eqb-true, eq-eqb}
 use Rattle.below.proofs.Tests.{and_left, and_right}
 use Rattle.history.specs.Moves.{put, put₂}
 

@@ -1,10 +1,6 @@
 -- Of two votes of one box in one round, one extends the other; the newest extends all.
-use Prim.Native.Nat.{ℕ}
-use mathlib.Core.Path.{◌≡◌}
-use mathlib.Core.Bool.{true}
-use mathlib.Core.Logic.{◌⊎◌, inl, inr, ⊎_elim}
+use Rattle.std.proofs.Common.{ℕ, ◌≡◌, true, ◌⊎◌, inl, inr, ⊎_elim, List, [], ◌∷◌}
 use mathlib.Core.List.Memᴰ
-use mathlib.Core.List.{List, [], ◌∷◌}
 use Rattle.pages.specs.declared.page.Page.{Page}
 use Rattle.pages.specs.Pages.{prefix_of}
 use Rattle.history.specs.History.{◌∈◌, History}

@@ -1,8 +1,5 @@
 -- A vote has a reading, and no line beyond the racks of the hall.
-use Prim.Native.Nat.{ℕ, ◌<◌}
-use mathlib.Core.Path.{◌≡◌}
-use mathlib.Core.Bool.{true}
-use mathlib.Core.List.{List}
+use Rattle.std.proofs.Common.{ℕ, ◌<◌, ◌≡◌, true, List}
 use Rattle.pages.specs.declared.line.Mark.{Mark}
 use Rattle.pages.specs.declared.page.Page.{Page}
 use Rattle.pages.specs.Lines.{is_reading}

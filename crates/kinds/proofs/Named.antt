@@ -1,8 +1,5 @@
 -- A block that is good for a kind is known by that kind's number, and by no other (blocks, `one_kind`).
-use Prim.Native.Nat.{ℕ}
-use mathlib.Core.Path.{◌≡◌, ap, ◌∙◌}
-use mathlib.Core.Bool.{true}
-use mathlib.Core.List.{List}
+use Rattle.std.proofs.Common.{ℕ, ◌≡◌, ap, ◌∙◌, true, List}
 use Rattle.blocks.specs.Kinds.{good}
 use Rattle.blocks.proofs.Theorems.{kind_byte}
 use Rattle.message_blocks.specs.Messages.{propose, one_a, one_b, two_s, two_a, two_b}

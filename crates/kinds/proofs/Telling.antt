@@ -1,10 +1,6 @@
 -- Laws of the kind of a block.
-use Prim.Native.Nat.{ℕ}
-use lib.ListN.{length}
-use mathlib.Core.Path.{◌≡◌, refl, sym, ap, ◌∙◌}
-use mathlib.Core.Bool.{Bool, true, false, cond, ◌&&◌}
-use mathlib.Core.List.{List}
-use borrow.Author.Tests.{eq-eqb, ne_eqb, eqb-false}
+use Rattle.std.proofs.Common.{ℕ, length, ◌≡◌, refl, sym, ap, ◌∙◌, Bool, true, false, cond, ◌&&◌, List, eq-eqb, ne_eqb}
+use borrow.Author.Tests.{eqb-false}
 use Rattle.words.specs.Bytes.{byte}
 use Rattle.blocks.specs.Frame.{block_size}
 use Rattle.blocks.specs.Answers.{answer}

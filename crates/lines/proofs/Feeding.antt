@@ -1,12 +1,5 @@
 -- The loop over a part of a line: what is left to read gives the same from every place that it comes to.
-use Prim.Native.Nat.{ℕ, ◌+◌, ◌≤◌, ◌<◌}
-use native.Mathlib.Numerals.{add-one}
-use native.Mathlib.Omega.{arith}
-use lib.ListN.{length, get_or, drop, drop_of_length-le}
-use lib.Seq.{drop-cons}
-use borrow.Author.Tests.{eq-eqb, ne_eqb}
-use mathlib.Core.Path.{◌≡◌, refl, sym, ap, ◌∙◌}
-use mathlib.Core.List.{List, [], ◌∷◌}
+use Rattle.std.proofs.Common.{ℕ, ◌+◌, ◌≤◌, ◌<◌, add-one, arith, length, get_or, drop, drop_of_length-le, drop-cons, eq-eqb, ne_eqb, ◌≡◌, refl, sym, ap, ◌∙◌, List, [], ◌∷◌}
 use Rattle.lines.specs.declared.scan.Scan.{Scan}
 use Rattle.lines.specs.Fields.{line_feed, before_lf}
 use Rattle.lines.specs.Scans.{feed_of, feed_all, FedOn}

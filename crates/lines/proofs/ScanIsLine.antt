@@ -1,15 +1,9 @@
 -- The scan finds what the line says: `scan_is_line`, over any split into parts (`feed_parts`).
-use Prim.Native.Nat.{ℕ, suc, ◌+◌, ◌*◌, ◌-◌, ◌^◌, ◌≤◌}
-use native.Mathlib.Omega.{arith}
-use native.Mathlib.Nat.{add-zero, mul_assoc, mul_left_comm, add-mul, pow-succ', pow-le-pow_right, le-mul_of_pos_right}
-use native.Mathlib.Numerals.{add-one}
-use lib.Dec.{leb, ltb, eqb}
-use lib.ListN.{length, drop, set, replicate, length-map}
-use lib.Seq.{sets, sets-eq}
-use borrow.Author.Tests.{ltb-true, ltb-false, leb-true, leb-false, eqb-true, lt-leb, eq-eqb, ne_eqb, lt-ltb}
-use mathlib.Core.Path.{◌≡◌, refl, sym, ap, subst, ◌∙◌}
-use mathlib.Core.Bool.{Bool, true, false, not, cond, ◌&&◌, ◌||◌, true≢false}
-use mathlib.Core.List.{List, [], ◌∷◌, ◌++◌, map, append-nil}
+use Rattle.std.proofs.Common.{ℕ, suc, ◌+◌, ◌*◌, ◌-◌, ◌^◌, ◌≤◌, arith, add-zero, mul_assoc, mul_left_comm, add-mul, le-mul_of_pos_right, add-one, leb, ltb, eqb, length, drop, set, replicate, ltb-true, ltb-false, leb-true, leb-false, eqb-true, eq-eqb, ne_eqb, lt-ltb, ◌≡◌, refl, sym, ap, subst, ◌∙◌, Bool, true, false, not, cond, ◌&&◌, ◌||◌, true≢false, List, [], ◌∷◌, ◌++◌, map, append-nil}
+use Rattle.std.proofs.Math.Nat.{pow-succ', pow-le-pow_right}
+use Rattle.std.proofs.Math.ListN.{length-map}
+use Rattle.std.proofs.Math.Seq.{sets, sets-eq}
+use borrow.Author.Tests.{lt-leb}
 use Rattle.below.proofs.Tests.{and_left, and_right, and_false_left, and_false_right, or_true_right, same_yes}
 use Rattle.lines.specs.declared.scan.Scan.{Scan}
 use Rattle.lines.specs.declared.scan.NumbersRead.{NumbersRead}

@@ -1,10 +1,6 @@
 -- The scan's functions by their ways: what the tests say of the numbers, and what each way gives.
-use Prim.Native.Nat.{ℕ, ◌+◌, ◌-◌, ◌≤◌, ◌<◌}
-use lib.Dec.{leb, ltb, eqb}
-use lib.ListN.{set, replicate}
-use borrow.Author.Tests.{ltb-true, leb-true, le-leb, lt-leb, eq-eqb, ne_eqb}
-use mathlib.Core.Path.{◌≡◌, sym, ap, ◌∙◌}
-use mathlib.Core.Bool.{Bool, true, false, not, ◌&&◌}
+use Rattle.std.proofs.Common.{ℕ, ◌+◌, ◌-◌, ◌≤◌, ◌<◌, leb, ltb, eqb, set, replicate, ltb-true, leb-true, le-leb, eq-eqb, ne_eqb, ◌≡◌, sym, ap, ◌∙◌, Bool, true, false, not, ◌&&◌}
+use borrow.Author.Tests.{lt-leb}
 use Rattle.below.proofs.Tests.{and_left, and_right, and_false_right}
 use Rattle.lines.specs.declared.scan.Scan.{Scan}
 use Rattle.lines.specs.Fields.{space, fields_of_line, largest, answer_of}

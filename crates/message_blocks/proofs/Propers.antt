@@ -1,9 +1,5 @@
 -- The six kinds are proper: which records fit, and that their codecs are lawful; and a body as it is read, field by field.
-use Prim.Native.Nat.{ℕ}
-use native.Mathlib.Omega.{arith}
-use mathlib.Core.Path.{◌≡◌, refl}
-use mathlib.Core.Bool.{Bool, true}
-use mathlib.Core.List.{List}
+use Rattle.std.proofs.Common.{ℕ, arith, ◌≡◌, refl, Bool, true, List}
 use Rattle.pages.specs.declared.line.Reading.{Reading}
 use Rattle.pages.specs.declared.line.Line.{Line}
 use Rattle.pages.specs.declared.page.Page.{Page}

@@ -1,11 +1,5 @@
 -- Both round trips, size, bytes and soundness, for each message.
-use Prim.Native.Nat.{ℕ, ◌≤◌}
-use native.Mathlib.Omega.{arith}
-use lib.Dec.{leb}
-use lib.ListN.{length}
-use mathlib.Core.Path.{◌≡◌}
-use mathlib.Core.Bool.{true, ◌&&◌}
-use borrow.Author.Tests.{leb-true}
+use Rattle.std.proofs.Common.{ℕ, ◌≤◌, arith, leb, length, ◌≡◌, true, ◌&&◌, leb-true}
 use Rattle.below.proofs.Tests.{and_left, and_right}
 use Rattle.pages.specs.declared.page.Page.{Page}
 use Rattle.pages.specs.Lines.{mark_in_range}

@@ -1,10 +1,6 @@
 -- The algebra of pages, once, over any number n of racks: a page is a function of the rack. Prefix is a partial order; append and
 -- Nil-extension extend; the join is the least upper bound and exists exactly if compatible; what extensions keep.
-use Prim.Native.Nat.{ℕ, ◌<◌}
-use lib.Dec.{eqb}
-use mathlib.Core.Path.{◌≡◌, refl, sym, ap, subst, ◌∙◌}
-use mathlib.Core.Bool.{Bool, true, false, cond, true≢false}
-use mathlib.Core.Logic.{◌↔◌}
+use Rattle.std.proofs.Common.{ℕ, ◌<◌, eqb, ◌≡◌, refl, sym, ap, subst, ◌∙◌, Bool, true, false, cond, true≢false, ◌↔◌}
 use Rattle.pages.specs.declared.line.Mark.{Mark}
 use Rattle.pages.specs.declared.line.Mark.TheVariants.{Nil}
 use Rattle.pages.specs.Lines.{is_absent, is_nil, is_reading, append_mark, prefix_mark, compatible_mark}

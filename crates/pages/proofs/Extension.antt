@@ -1,9 +1,6 @@
 -- Nil-extension over the racks outside cf, which the code holds as bits, is that over the racks which pass the test.
-use Prim.Native.Nat.{ℕ, ◌%◌, ◌^◌}
-use native.Mathlib.Nat.{zero-div}
-use lib.Dec.{eqb, ltb}
-use mathlib.Core.Path.{◌≡◌, refl, ap, ◌∙◌}
-use mathlib.Core.Bool.{Bool, true, false, not, ◌&&◌}
+use Rattle.std.proofs.Common.{ℕ, ◌%◌, ◌^◌, eqb, ltb, ◌≡◌, refl, ap, ◌∙◌, Bool, true, false, not, ◌&&◌}
+use Rattle.std.proofs.Math.Nat.{zero-div}
 use Rattle.pages.specs.declared.page.Page.{Page}
 use Rattle.pages.specs.Racks.{most_racks, has, racks_below, outside, set_of}
 use Rattle.pages.specs.Pages.{nil_extension}

@@ -1,9 +1,6 @@
 -- Laws of `at` and `page`, and of the loop that builds a page line by line.
-use Prim.Native.Nat.{ℕ, ◌+◌, ◌≤◌, ◌<◌}
-use mathlib.Core.Path.{◌≡◌, ap, sym, subst, ◌∙◌}
-use mathlib.Core.List.{List, map}
-use lib.ListN.{length, set, length-map, get_or-eq_default}
-use mathlib.Core.Bool.{Bool, false, ◌&&◌, ◌||◌}
+use Rattle.std.proofs.Common.{ℕ, ◌+◌, ◌≤◌, ◌<◌, ◌≡◌, ap, sym, subst, ◌∙◌, List, map, length, set, Bool, false, ◌&&◌, ◌||◌}
+use Rattle.std.proofs.Math.ListN.{length-map, get_or-eq_default}
 use Rattle.below.proofs.Rows.{row_at, row_past, row_same, filled, filled_start, filled_more, filled_ends}
 use Rattle.pages.specs.declared.line.Mark.{Mark}
 use Rattle.pages.specs.declared.line.Mark.TheVariants.{Absent, Nil, Reading as reads}

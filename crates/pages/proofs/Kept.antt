@@ -1,10 +1,5 @@
 -- What append, Nil-extension and join keep of a page's rules: lines of the hall's racks alone, readings in range, at least one reading.
-use Prim.Native.Nat.{ℕ, ◌<◌}
-use lib.Dec.{eqb}
-use lib.ListN.{length}
-use borrow.Author.Tests.{eqb-true, eq-eqb}
-use mathlib.Core.Path.{◌≡◌, refl, sym, ap, ◌∙◌}
-use mathlib.Core.Bool.{Bool, true, false, cond, true≢false}
+use Rattle.std.proofs.Common.{ℕ, ◌<◌, eqb, length, eqb-true, eq-eqb, ◌≡◌, refl, sym, ap, ◌∙◌, Bool, true, false, cond, true≢false}
 use Rattle.pages.specs.declared.line.Mark.{Mark}
 use Rattle.pages.specs.declared.line.Mark.TheVariants.{Absent, Nil, Reading as reads}
 use Rattle.pages.specs.declared.page.Page.{Page}

@@ -1,7 +1,6 @@
 -- Laws of one line: each is a fact about the three states, and every law of pages comes from these.
-use mathlib.Core.Path.{◌≡◌, refl, sym, ap, subst}
-use mathlib.Core.Bool.{true, false, false≢true, true≢false}
-use borrow.Author.Tests.{eqb-true, eq-eqb}
+use Rattle.std.proofs.Common.{◌≡◌, refl, sym, ap, subst, true, false, true≢false, eqb-true, eq-eqb}
+use Rattle.std.proofs.Math.Bool.{false≢true}
 use Rattle.pages.specs.declared.line.Reading
 use Rattle.pages.specs.declared.line.Mark.{Mark}
 use Rattle.pages.specs.declared.line.Mark.TheVariants.{Absent, Nil, Reading as reads}

@@ -1,7 +1,5 @@
 -- The tests and operations on pages, read line by line: what joins the definitions to the algebra.
-use Prim.Native.Nat.{ℕ, ◌<◌}
-use mathlib.Core.Path.{◌≡◌, refl, ap, subst}
-use mathlib.Core.Bool.{Bool, true, false, cond, not, ◌&&◌, ◌||◌}
+use Rattle.std.proofs.Common.{ℕ, ◌<◌, ◌≡◌, refl, ap, subst, Bool, true, false, cond, not, ◌&&◌, ◌||◌}
 use borrow.Author.Tests.{not-true}
 use Rattle.below.proofs.Tests.{all_at, all_true, any_at, any_true, and_left, and_right, and_true}
 use Rattle.pages.specs.declared.line.Mark.{Mark}

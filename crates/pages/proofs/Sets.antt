@@ -1,12 +1,6 @@
 -- Laws of sets of racks as bits, and of the loop that builds one from the highest rack down.
-use Prim.Native.Nat.{ℕ, zero, suc, ◌+◌, ◌-◌, ◌*◌, ◌/◌, ◌%◌, ◌^◌, ◌≤◌, ◌<◌}
-use native.Mathlib.Omega.{arith}
-use native.Mathlib.Nat.{div-div-eq-div-mul, div-eq_of_lt, pow-succ', div-one, sub_self, sub-zero, mod-eq_of_lt, add-zero, zero-add}
-use lib.Dec.{eqb}
-use borrow.Author.Tests.{lt-ltb, le-ltb}
-use lib.Pow.{pow_mono}
-use mathlib.Core.Path.{◌≡◌, refl, sym, ap, ◌∙◌}
-use mathlib.Core.Bool.{Bool, true, false, cond, not}
+use Rattle.std.proofs.Common.{ℕ, zero, suc, ◌+◌, ◌-◌, ◌*◌, ◌/◌, ◌%◌, ◌^◌, ◌≤◌, ◌<◌, arith, div-one, mod-eq_of_lt, add-zero, zero-add, eqb, lt-ltb, le-ltb, pow_mono, ◌≡◌, refl, sym, ap, ◌∙◌, Bool, true, false, cond, not}
+use Rattle.std.proofs.Math.Nat.{div-div-eq-div-mul, div-eq_of_lt, pow-succ', sub_self, sub-zero}
 use Rattle.pages.specs.Racks.{has, set_of, outside}
 
 -- a bit is 0 or 1, and twice the rest does not touch it

@@ -1,9 +1,5 @@
 -- The steps of boxes on the bytes of a good hall: join, take page, take reading.
-use Prim.Native.Nat.{ℕ, ◌+◌, ◌<◌}
-use mathlib.Core.Path.{◌≡◌, refl}
-use mathlib.Core.Bool.{true}
-use mathlib.Core.Logic.{inl}
-use mathlib.Core.List.{List}
+use Rattle.std.proofs.Common.{ℕ, ◌+◌, ◌<◌, ◌≡◌, refl, true, inl, List}
 use Rattle.below.proofs.Rows.{length-row}
 use Rattle.pages.specs.Racks.{most_racks}
 use Rattle.rounds.specs.declared.setup.Setup.{Setup}

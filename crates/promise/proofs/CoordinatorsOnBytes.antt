@@ -1,13 +1,5 @@
 -- The steps of coordinators on the bytes of a good hall: start, hear, open.
-use Prim.Native.Nat.{ℕ, ◌+◌, ◌<◌}
-use native.Mathlib.Omega.{arith}
-use lib.Dec.{ltb, leb}
-use lib.ListN.{length}
-use mathlib.Core.Path.{◌≡◌, refl, ap, ◌∙◌}
-use mathlib.Core.Bool.{true, not, ◌&&◌}
-use mathlib.Core.Logic.{inl}
-use mathlib.Core.List.{List}
-use borrow.Author.Tests.{ltb-true, lt-ltb, ne_eqb}
+use Rattle.std.proofs.Common.{ℕ, ◌+◌, ◌<◌, arith, ltb, leb, length, ◌≡◌, refl, ap, ◌∙◌, true, not, ◌&&◌, inl, List, ltb-true, lt-ltb, ne_eqb}
 use Rattle.below.proofs.Tests.{and_true, and_left, and_right, or_true_left}
 use Rattle.below.proofs.Rows.{length-row}
 use Rattle.pages.specs.Racks.{most_racks}

@@ -1,13 +1,5 @@
 -- Demand 3 holds of every hall that setup grants.
-use Prim.Native.Nat.{ℕ, ◌≤◌, ◌<◌}
-use native.Mathlib.Omega.{arith}
-use lib.Dec.{leb, eqb}
-use lib.ListN.{length}
-use mathlib.Core.Path.{◌≡◌, refl, sym, subst}
-use mathlib.Core.Bool.{Bool, true, false, cond, ◌&&◌}
-use mathlib.Core.Logic.{◌⊎◌, inl, inr, ⊎_elim}
-use mathlib.Core.List.{List}
-use borrow.Author.Tests.{eqb-true, leb-true}
+use Rattle.std.proofs.Common.{ℕ, ◌≤◌, ◌<◌, arith, leb, eqb, length, ◌≡◌, refl, sym, subst, Bool, true, false, cond, ◌&&◌, ◌⊎◌, inl, inr, ⊎_elim, List, eqb-true, leb-true}
 use Rattle.below.specs.Refusals.{unless, granted, wrong_length, out_of_range}
 use Rattle.below.proofs.Tests.{and_left, and_right}
 use Rattle.below.proofs.Granted.{unless_held, unless_later, answer_granted}

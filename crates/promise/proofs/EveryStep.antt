@@ -1,8 +1,5 @@
 -- Every granted step from a good hall, whatever its seven numbers: the hall is good again, and the step is one of the thirteen.
-use Prim.Native.Nat.{ℕ, zero, suc}
-use native.Mathlib.Omega.{arith}
-use mathlib.Core.Path.{◌≡◌}
-use mathlib.Core.List.{List}
+use Rattle.std.proofs.Common.{ℕ, zero, suc, arith, ◌≡◌, List}
 use Rattle.below.specs.Refusals.{granted}
 use Rattle.rounds.specs.declared.setup.Setup.{Setup}
 use Rattle.acts.specs.declared.step.Step.{Step}

@@ -1,11 +1,6 @@
 -- A fresh hall is good, and its rows are those of document 01 at the start.
-use Prim.Native.Nat.{ℕ, ◌+◌, ◌-◌, ◌≤◌, ◌<◌}
-use native.Mathlib.Omega.{arith}
-use lib.Dec.{ltb}
-use lib.ListN.{length, length-replicate}
-use mathlib.Core.Path.{◌≡◌, sym, ap, subst, ◌∙◌}
-use mathlib.Core.Bool.{Bool, true, false, cond}
-use borrow.Author.Tests.{lt-ltb, le-ltb}
+use Rattle.std.proofs.Common.{ℕ, ◌+◌, ◌-◌, ◌≤◌, ◌<◌, arith, ltb, length, ◌≡◌, sym, ap, subst, ◌∙◌, Bool, true, false, cond, lt-ltb, le-ltb}
+use Rattle.std.proofs.Math.ListN.{length-replicate}
 use Rattle.pages.proofs.Kept.{empty_whole}
 use Rattle.rounds.specs.declared.setup.Setup.{Setup}
 use Rattle.rounds.specs.Setups.{setup_in_range}

@@ -1,11 +1,6 @@
 -- Rows at the start keep the rules and have the shapes of their types.
-use Prim.Native.Nat.{ℕ}
-use native.Mathlib.Omega.{arith}
-use lib.Dec.{eqb, ltb}
-use lib.ListN.{length}
-use mathlib.Core.Path.{◌≡◌, refl, sym, ap, ◌∙◌}
-use mathlib.Core.Bool.{Bool, true, false, cond, not, ◌&&◌, false≢true}
-use borrow.Author.Tests.{eq-eqb, lt-ltb}
+use Rattle.std.proofs.Common.{ℕ, arith, eqb, ltb, length, ◌≡◌, refl, sym, ap, ◌∙◌, Bool, true, false, cond, not, ◌&&◌, eq-eqb, lt-ltb}
+use Rattle.std.proofs.Math.Bool.{false≢true}
 use Rattle.below.proofs.Tests.{and_true, and_left, and_right, or_true_left, all_true, not_true_false}
 use Rattle.below.proofs.Rows.{length-row, row_at}
 use Rattle.pages.specs.Lines.{is_nil}

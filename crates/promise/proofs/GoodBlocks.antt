@@ -1,10 +1,5 @@
 -- Good blocks of a hall, of any kind: what a good block says, and that what is encoded is one.
-use Prim.Native.Nat.{ℕ, ◌≤◌, ◌<◌}
-use lib.Dec.{leb, eqb}
-use mathlib.Core.Path.{◌≡◌, refl, sym, ap, subst, ◌∙◌}
-use mathlib.Core.Bool.{true, ◌&&◌}
-use mathlib.Core.List.{List}
-use borrow.Author.Tests.{eqb-true, eq-eqb, ltb-true, le-leb, lt-ltb}
+use Rattle.std.proofs.Common.{ℕ, ◌≤◌, ◌<◌, leb, eqb, ◌≡◌, refl, sym, ap, subst, ◌∙◌, true, ◌&&◌, List, eqb-true, eq-eqb, ltb-true, le-leb, lt-ltb}
 use Rattle.below.proofs.Tests.{and_true, and_left, and_right}
 use Rattle.rounds.specs.declared.setup.Setup.{Setup}
 use Rattle.rounds.specs.Setups.{setup_in_range, same_setup}

@@ -1,11 +1,6 @@
 -- The invariant on bytes: every block that a step can name is good and of this hall. And the hall as the rows and messages that
 -- its blocks hold.
-use Prim.Native.Nat.{ℕ, ◌+◌, ◌≤◌, ◌<◌}
-use lib.Dec.{eqb}
-use lib.ListN.{length}
-use mathlib.Core.Path.{◌≡◌, refl, subst}
-use mathlib.Core.Bool.{Bool, true, false, cond}
-use mathlib.Core.List.{List}
+use Rattle.std.proofs.Common.{ℕ, ◌+◌, ◌≤◌, ◌<◌, eqb, length, ◌≡◌, refl, subst, Bool, true, false, cond, List}
 use Rattle.rounds.specs.declared.setup.Setup.{Setup}
 use Rattle.rounds.specs.Setups.{setup_in_range}
 use Rattle.words.specs.Bytes.{byte}

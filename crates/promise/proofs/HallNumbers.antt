@@ -1,12 +1,5 @@
 -- What a good hall answers: 1, 2 and 3 are out, so the number is 4, 11, the act's own, or 10; and what is known where it is 0.
-use Prim.Native.Nat.{ℕ, ◌+◌, ◌<◌}
-use native.Mathlib.Omega.{arith}
-use lib.Dec.{eqb}
-use mathlib.Core.Path.{◌≡◌, refl, sym, ap, subst, ◌∙◌}
-use mathlib.Core.Bool.{Bool, true, false, cond, not, ◌&&◌, ◌||◌}
-use mathlib.Core.Logic.{⊎_elim}
-use mathlib.Core.List.{List}
-use borrow.Author.Tests.{eq-eqb}
+use Rattle.std.proofs.Common.{ℕ, ◌+◌, ◌<◌, arith, eqb, ◌≡◌, refl, sym, ap, subst, ◌∙◌, Bool, true, false, cond, not, ◌&&◌, ◌||◌, ⊎_elim, List, eq-eqb}
 use Rattle.below.specs.Refusals.{unless, granted, wrong_length, bad_block, other_hall, no_such_step, post_full, out_of_range}
 use Rattle.below.proofs.Tests.{and_true, or_true_right, or_true_left, decided}
 use Rattle.below.proofs.Granted.{unless_held, unless_later}

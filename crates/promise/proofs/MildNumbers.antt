@@ -1,11 +1,5 @@
 -- The numbers that the steps themselves refuse with: never 1, 2 or 3, and 9 only by open, note vote and learn.
-use Prim.Native.Nat.{ℕ, ◌≤◌}
-use native.Mathlib.Omega.{arith}
-use lib.Dec.{leb, eqb}
-use mathlib.Core.Path.{◌≡◌, refl}
-use mathlib.Core.Bool.{Bool, true, false, cond, not, ◌&&◌}
-use mathlib.Core.Logic.{◌⊎◌, inl, inr, ◌≢◌}
-use mathlib.Core.List.{List}
+use Rattle.std.proofs.Common.{ℕ, ◌≤◌, arith, leb, eqb, ◌≡◌, refl, Bool, true, false, cond, not, ◌&&◌, ◌⊎◌, inl, inr, ◌≢◌, List}
 use Rattle.below.specs.Refusals.{unless, granted, wrong_message}
 use Rattle.below.proofs.Tests.{and_right}
 use Rattle.pages.specs.Lines.{is_nil, is_reading, is_absent}

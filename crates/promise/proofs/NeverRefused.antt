@@ -1,11 +1,5 @@
 -- From a fresh hall 1, 2, 3 and 9 never occur.
-use Prim.Native.Nat.{ℕ, zero, suc, ◌+◌, ◌≤◌, ◌<◌}
-use native.Mathlib.Omega.{arith}
-use lib.Dec.{eqb}
-use mathlib.Core.Path.{◌≡◌, refl, sym, subst}
-use mathlib.Core.Bool.{true}
-use mathlib.Core.Logic.{inr, ◌≢◌, ⊎_elim}
-use mathlib.Core.List.{List}
+use Rattle.std.proofs.Common.{ℕ, zero, suc, ◌+◌, ◌≤◌, ◌<◌, arith, eqb, ◌≡◌, refl, sym, subst, true, inr, ◌≢◌, ⊎_elim, List}
 use Rattle.below.specs.Refusals.{granted}
 use Rattle.below.proofs.Tests.{decided}
 use Rattle.rounds.specs.declared.setup.Setup.{Setup}

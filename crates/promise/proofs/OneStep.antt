@@ -1,12 +1,5 @@
 -- A granted step on the bytes, once for all thirteen: what its row and its message hold, and what the hall is after it.
-use Prim.Native.Nat.{ℕ, ◌+◌, ◌<◌}
-use lib.Dec.{eqb}
-use lib.ListN.{length}
-use mathlib.Core.Path.{◌≡◌, refl, sym, ap, subst, ◌∙◌}
-use mathlib.Core.Bool.{Bool, true, false, cond, ◌&&◌}
-use mathlib.Core.List.{List, []}
-use native.Mathlib.Omega.{arith}
-use borrow.Author.Tests.{eqb-true, ltb-true}
+use Rattle.std.proofs.Common.{ℕ, ◌+◌, ◌<◌, eqb, length, ◌≡◌, refl, sym, ap, subst, ◌∙◌, Bool, true, false, cond, ◌&&◌, List, [], arith, eqb-true, ltb-true}
 use Rattle.below.specs.Refusals.{granted, wrong_message}
 use Rattle.below.proofs.Tests.{and_right}
 use Rattle.rounds.specs.declared.setup.Setup.{Setup}

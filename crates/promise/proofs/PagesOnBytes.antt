@@ -1,12 +1,6 @@
 -- What readers' pages show over a run of steps from a fresh hall, and the message count.
-use Prim.Native.Nat.{ℕ, ◌≤◌, ◌<◌}
-use lib.ListN.{take}
-use lib.Seq.{take-take}
-use mathlib.Core.Path.{◌≡◌, subst, ◌∙◌}
-use mathlib.Core.Bool.{true, false}
-use mathlib.Core.Logic.{⊎_elim}
+use Rattle.std.proofs.Common.{zero-add, ℕ, ◌≤◌, ◌<◌, take, take-take, ◌≡◌, subst, ◌∙◌, true, false, ⊎_elim, List, []}
 use mathlib.Core.List.Memᴰ
-use mathlib.Core.List.{List, []}
 use Rattle.pages.specs.declared.line.Reading.{Reading}
 use Rattle.pages.specs.declared.line.Mark.TheVariants.{Nil, Reading as reads}
 use Rattle.pages.specs.Lines.{is_absent}
@@ -60,7 +54,7 @@ module _ (instance : ℕ) (s : Setup) (range : setup_in_range s ≡ true) (small
         found o = ⊎_elim (λ m. absurd (Memᴰ.not-nil m)) (λ w. w) ((whole steps).offers (record { rack = o.0; reading = v }) o.1)
 
     pub messages_counted : count_of (run_hall steps fresh) ≡ sent_by steps fresh
-    messages_counted = count_is (whole steps).reached.good ∙ (whole steps).counted ∙ native.Mathlib.Nat.zero-add (sent_by steps fresh)
+    messages_counted = count_is (whole steps).reached.good ∙ (whole steps).counted ∙ zero-add (sent_by steps fresh)
 
   pub readings_offered : (steps : List Step) (t i : ℕ) → i < s.readers → (k : ℕ) (v : Reading) → at (page_of (moment_of steps fresh t) i) k ≡ reads v →
       OfferedBy fresh (take t steps) v

@@ -1,9 +1,5 @@
 -- The steps of racks on the bytes of a good hall: offer, prepare, fast, blank.
-use Prim.Native.Nat.{ℕ, ◌+◌, ◌<◌}
-use mathlib.Core.Path.{◌≡◌, refl, ap}
-use mathlib.Core.Bool.{Bool, true, cond}
-use mathlib.Core.Logic.{inl}
-use mathlib.Core.List.{List}
+use Rattle.std.proofs.Common.{ℕ, ◌+◌, ◌<◌, ◌≡◌, refl, ap, Bool, true, cond, inl, List, arith}
 use Rattle.below.specs.Refusals.{granted, wrong_message}
 use Rattle.rounds.specs.declared.setup.Setup.{Setup}
 use Rattle.records.specs.declared.messages.Propose.{Propose}
@@ -33,7 +29,6 @@ use Rattle.hall.proofs.StepFacts.{exists_agent, exists_message}
 use Rattle.promise.proofs.HallNumbers.{HallGranted}
 use Rattle.promise.proofs.OneStep.{rack_row, propose_post, two_s_post, two_a_post, silent_done, sending_done, posting_done}
 use Rattle.promise.proofs.Stepped.{step_of, Stepped, by_other, handed}
-use native.Mathlib.Omega.{arith}
 
 module _ {instance : ℕ} {s : Setup} {count : ℕ} {hall : List ℕ} (g : GoodHall instance s count hall) (a j n c cf v : ℕ) where
   abbrev own : RackRow

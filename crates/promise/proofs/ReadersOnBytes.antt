@@ -1,10 +1,5 @@
 -- The steps of readers on the bytes of a good hall: note vote, note blank, learn.
-use Prim.Native.Nat.{ℕ, ◌+◌, ◌<◌}
-use lib.ListN.{length}
-use mathlib.Core.Path.{◌≡◌, refl, ap, ◌∙◌}
-use mathlib.Core.Bool.{true}
-use mathlib.Core.Logic.{inl, inr, ⊎_elim}
-use mathlib.Core.List.{List}
+use Rattle.std.proofs.Common.{ℕ, ◌+◌, ◌<◌, length, ◌≡◌, refl, ap, ◌∙◌, true, inl, inr, ⊎_elim, List}
 use Rattle.below.specs.Refusals.{granted}
 use Rattle.below.proofs.Rows.{length-row}
 use Rattle.pages.specs.Racks.{most_racks}

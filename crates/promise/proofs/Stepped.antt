@@ -1,12 +1,6 @@
 -- What is shown of each of the thirteen on a good hall: the hall is good again, and its rows and messages made a granted step.
-use Prim.Native.Nat.{ℕ, ◌+◌, ◌*◌, ◌<◌}
-use lib.ListN.{get_or}
-use native.Mathlib.Decide.{ℕ_discrete}
-use mathlib.Core.Path.{◌≡◌, sym, ap, subst, ◌∙◌}
-use mathlib.Core.Logic.{◌⊎◌, ◌≢◌}
-use lib.Dec.{eqb}
-use mathlib.Core.Bool.{true, cond}
-use mathlib.Core.List.{List, [], ◌∷◌}
+use Rattle.std.proofs.Common.{ℕ, ◌+◌, ◌*◌, ◌<◌, get_or, ◌≡◌, sym, ap, subst, ◌∙◌, ◌⊎◌, ◌≢◌, eqb, true, cond, List, [], ◌∷◌}
+use Rattle.std.proofs.Math.Decide.{ℕ_discrete}
 use Rattle.below.specs.Refusals.{granted}
 use Rattle.below.proofs.Rows.{row_at}
 use Rattle.rounds.specs.declared.setup.Setup.{Setup}

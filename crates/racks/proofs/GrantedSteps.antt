@@ -1,8 +1,5 @@
 -- What a granted step of a rack says: the tests that held, the row and the message. A refused step gives the row back.
-use Prim.Native.Nat.{ℕ}
-use native.Mathlib.Omega.{arith}
-use mathlib.Core.Path.{◌≡◌, refl, sym, ap, ◌∙◌}
-use mathlib.Core.Bool.{Bool, true, cond, ◌&&◌}
+use Rattle.std.proofs.Common.{ℕ, arith, ◌≡◌, refl, sym, ap, ◌∙◌, Bool, true, cond, ◌&&◌}
 use Rattle.below.specs.Refusals.{unless, granted, wrong_message, wrong_round, already_done}
 use Rattle.below.proofs.Granted.{unless_held, unless_later, answer_granted, answer_refused, answer_number}
 use Rattle.below.proofs.Tests.{and_left, and_right}

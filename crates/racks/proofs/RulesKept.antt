@@ -1,8 +1,5 @@
 -- The rules are kept: a good row and a good message give, where the step is granted, a good row and a good message sent.
-use Prim.Native.Nat.{ℕ, ◌<◌}
-use native.Mathlib.Omega.{arith}
-use mathlib.Core.Path.{◌≡◌, refl, ap, ◌∙◌}
-use mathlib.Core.Bool.{Bool, true, false, cond, not}
+use Rattle.std.proofs.Common.{ℕ, ◌<◌, arith, ◌≡◌, refl, ap, ◌∙◌, Bool, true, false, cond, not}
 use Rattle.below.specs.Refusals.{granted}
 use Rattle.below.proofs.Tests.{and_true, and_left, and_right}
 use Rattle.pages.specs.declared.line.Reading as Reading

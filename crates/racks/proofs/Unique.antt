@@ -1,23 +1,23 @@
 -- Each public contract of this crate determines its answer.
-use mathlib.Core.Path.{sym, ◌∙◌}
+use Rattle.std.proofs.Common.{sym, ◌∙◌}
 use Rattle.below.proofs.Unique.{Determines}
-use Rattle.racks.proofs.steps.offer.Kinds as offer-kinds
-use Rattle.racks.proofs.steps.offer.Reads as offer-reads
-use Rattle.racks.proofs.steps.prepare.Kinds as prepare-kinds
-use Rattle.racks.proofs.steps.prepare.Reads as prepare-reads
-use Rattle.racks.proofs.steps.fast.Kinds as fast-kinds
-use Rattle.racks.proofs.steps.fast.Reads as fast-reads
-use Rattle.racks.proofs.steps.blank.Kinds as blank-kinds
-use Rattle.racks.proofs.steps.blank.Reads as blank-reads
+use Rattle.racks.proofs.steps.offer.Kinds as offer_kinds
+use Rattle.racks.proofs.steps.offer.Reads as offer_reads
+use Rattle.racks.proofs.steps.prepare.Kinds as prepare_kinds
+use Rattle.racks.proofs.steps.prepare.Reads as prepare_reads
+use Rattle.racks.proofs.steps.fast.Kinds as fast_kinds
+use Rattle.racks.proofs.steps.fast.Reads as fast_reads
+use Rattle.racks.proofs.steps.blank.Kinds as blank_kinds
+use Rattle.racks.proofs.steps.blank.Reads as blank_reads
 
-pub offer_unique : Determines 0 offer-kinds.ps offer-kinds.r offer-reads.Post
+pub offer_unique : Determines 0 offer_kinds.ps offer_kinds.r offer_reads.Post
 offer_unique κs a x y s t p q = λ i. record { reading = (p ∙ sym q) i }
 
-pub prepare_unique : Determines 0 prepare-kinds.ps prepare-kinds.r prepare-reads.Post
+pub prepare_unique : Determines 0 prepare_kinds.ps prepare_kinds.r prepare_reads.Post
 prepare_unique κs a x y s t p q = p ∙ sym q
 
-pub fast_unique : Determines 0 fast-kinds.ps fast-kinds.r fast-reads.Post
+pub fast_unique : Determines 0 fast_kinds.ps fast_kinds.r fast_reads.Post
 fast_unique κs a x y s t p q = p ∙ sym q
 
-pub blank_unique : Determines 0 blank-kinds.ps blank-kinds.r blank-reads.Post
+pub blank_unique : Determines 0 blank_kinds.ps blank_kinds.r blank_reads.Post
 blank_unique κs a x y s t p q = p ∙ sym q

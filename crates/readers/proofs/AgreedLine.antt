@@ -1,12 +1,8 @@
 -- The line that enough of n boxes agree on, over any number of boxes and any lines: counting finds it exactly if there is one.
-use Prim.Native.Nat.{ℕ, zero, suc, ◌≤◌, ◌<◌}
-use native.Mathlib.Omega.{arith}
-use native.Mathlib.Decide.{dec_lt}
-use lib.Dec.{leb}
-use borrow.Author.Tests.{not-true, leb-true, le-leb}
-use mathlib.Core.Path.{◌≡◌, refl, sym, ap, subst, ◌∙◌}
-use mathlib.Core.Bool.{Bool, true, false, not, ◌&&◌, true≢false, false≢true}
-use mathlib.Core.Logic.{⊎_elim}
+use Rattle.std.proofs.Common.{ℕ, zero, suc, ◌≤◌, ◌<◌, arith, leb, leb-true, le-leb, ◌≡◌, refl, sym, ap, subst, ◌∙◌, Bool, true, false, not, ◌&&◌, true≢false, ⊎_elim}
+use Rattle.std.proofs.Math.Decide.{dec_lt}
+use borrow.Author.Tests.{not-true}
+use Rattle.std.proofs.Math.Bool.{false≢true}
 use Rattle.below.specs.Below.{any, count}
 use Rattle.below.proofs.Tests.{and_true, and_left, and_right, decided, below_suc, any_at, any_true, any_same, any_none, not_true_false}
 use Rattle.below.proofs.Counts.{count_same, count_some, count_cut, counts_meet}

@@ -1,12 +1,6 @@
 -- The chosen pages and the page that counting agrees on: each line of it is one that some majority's extended pages have, and every
 -- chosen page is a prefix of it. So two chosen pages are always compatible.
-use Prim.Native.Nat.{ℕ, ◌≤◌, ◌<◌}
-use native.Mathlib.Nat.{le_trans}
-use lib.Dec.{eqb}
-use borrow.Author.Tests.{eqb-true}
-use mathlib.Core.Path.{◌≡◌, refl, sym, ap, subst, ◌∙◌}
-use mathlib.Core.Bool.{Bool, true, false, cond, ◌&&◌, true≢false}
-use mathlib.Core.Logic.{⊎_elim}
+use Rattle.std.proofs.Common.{ℕ, ◌≤◌, ◌<◌, le_trans, eqb, eqb-true, ◌≡◌, refl, sym, ap, subst, ◌∙◌, Bool, true, false, cond, ◌&&◌, true≢false, ⊎_elim}
 use Rattle.below.proofs.Tests.{and_true, and_left, and_right, decided, not_false_true}
 use Rattle.below.proofs.Counts.{count_grows}
 use Rattle.pages.specs.declared.line.Mark.{Mark}

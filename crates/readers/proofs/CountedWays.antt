@@ -1,10 +1,6 @@
 -- The code's counting is the definition's: a column of lines gathered from the pages, and the two ways through `counted`.
-use Prim.Native.Nat.{ℕ, ◌≤◌, ◌<◌}
-use borrow.Author.Tests.{le-leb, lt-leb}
-use mathlib.Core.Path.{◌≡◌, sym, ap, ◌∙◌}
-use mathlib.Core.Bool.{cond}
-use mathlib.Core.List.{List, []}
-use lib.ListN.{get_or}
+use Rattle.std.proofs.Common.{ℕ, ◌≤◌, ◌<◌, le-leb, ◌≡◌, sym, ap, ◌∙◌, cond, List, [], get_or}
+use borrow.Author.Tests.{lt-leb}
 use Rattle.below.specs.Below.{row, count}
 use Rattle.below.specs.Refusals.{no_majority}
 use Rattle.below.proofs.Rows.{row_at}

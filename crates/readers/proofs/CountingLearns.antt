@@ -1,10 +1,5 @@
 -- Counting gives exactly what document 01 says of majorities: its answer has the property, and only its answer.
-use Prim.Native.Nat.{ℕ}
-use native.Mathlib.Nat.{le_trans}
-use lib.Dec.{leb}
-use borrow.Author.Tests.{leb-true, le-leb}
-use mathlib.Core.Path.{◌≡◌, refl, sym, ap, subst, ◌∙◌}
-use mathlib.Core.Bool.{Bool, true, false, cond, true≢false}
+use Rattle.std.proofs.Common.{ℕ, le_trans, leb, leb-true, le-leb, ◌≡◌, refl, sym, ap, subst, ◌∙◌, Bool, true, false, cond, true≢false}
 use Rattle.below.specs.Below.{count}
 use Rattle.below.specs.Refusals.{granted, no_majority, lines_clash}
 use Rattle.below.proofs.Tests.{not_true_false}

@@ -1,14 +1,8 @@
 -- What a granted note vote and note blank say: the tests that held, and the row. A refused step gives the row back.
-use Prim.Native.Nat.{ℕ, ◌<◌}
-use native.Mathlib.Omega.{arith}
-use native.Mathlib.Decide.{dec_lt, ℕ_discrete}
-use lib.ListN.{length, get_or, set}
-use lib.Seq.{set_out, get_or-set_same, get_or-set_other}
+use Rattle.std.proofs.Common.{ℕ, ◌<◌, arith, length, get_or, set, get_or-set_same, get_or-set_other, ◌≡◌, refl, sym, ap, ◌∙◌, Bool, true, false, cond, not, ◌⊎◌, inl, inr, ⊎_elim, List}
+use Rattle.std.proofs.Math.Decide.{dec_lt, ℕ_discrete}
+use Rattle.std.proofs.Math.Seq.{set_out}
 use borrow.Author.Tests.{not-true}
-use mathlib.Core.Path.{◌≡◌, refl, sym, ap, ◌∙◌}
-use mathlib.Core.Bool.{Bool, true, false, cond, not}
-use mathlib.Core.Logic.{◌⊎◌, inl, inr, ⊎_elim}
-use mathlib.Core.List.{List}
 use Rattle.below.specs.Refusals.{granted, wrong_message, already_done, lines_clash}
 use Rattle.below.proofs.Granted.{unless_held, unless_later, answer_granted, answer_refused, answer_number}
 use Rattle.pages.specs.declared.line.Mark.TheVariants.{Nil}

@@ -1,9 +1,5 @@
 -- What it says that a box or a rack is held at exactly a round.
-use Prim.Native.Nat.{ℕ, ◌<◌}
-use lib.Dec.{ltb}
-use borrow.Author.Tests.{ltb-true}
-use mathlib.Core.Path.{◌≡◌}
-use mathlib.Core.Bool.{true, ◌&&◌}
+use Rattle.std.proofs.Common.{ℕ, ◌<◌, ltb, ltb-true, ◌≡◌, true, ◌&&◌}
 use Rattle.below.proofs.Tests.{and_left, and_right}
 use Rattle.pages.specs.Racks.{has}
 use Rattle.rounds.specs.declared.setup.Setup.{Setup}

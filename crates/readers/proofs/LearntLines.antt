@@ -1,10 +1,6 @@
 -- What a granted learn says: the page is the join, and each of its lines is the reader's old one or one that a majority's extended pages
 -- have. A refused learn gives the row back.
-use Prim.Native.Nat.{ℕ, ◌≤◌, ◌<◌}
-use mathlib.Core.Path.{◌≡◌, refl, sym, ap, subst, ◌∙◌}
-use mathlib.Core.Bool.{Bool, true, false}
-use mathlib.Core.Logic.{◌⊎◌, inl, inr, ⊎_elim}
-use native.Mathlib.Omega.{arith}
+use Rattle.std.proofs.Common.{ℕ, ◌≤◌, ◌<◌, ◌≡◌, refl, sym, ap, subst, ◌∙◌, Bool, true, false, ◌⊎◌, inl, inr, ⊎_elim, arith}
 use Rattle.below.specs.Below.{count}
 use Rattle.below.specs.Refusals.{granted}
 use Rattle.below.proofs.Tests.{decided}

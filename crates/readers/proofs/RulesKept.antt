@@ -1,11 +1,6 @@
 -- The rules are kept: a good row and a good message give, where the step is granted, a good row.
-use Prim.Native.Nat.{ℕ, ◌<◌}
-use native.Mathlib.Omega.{arith}
-use lib.Dec.{ltb}
-use borrow.Author.Tests.{lt-ltb, ltb-true, not-true}
-use mathlib.Core.Path.{◌≡◌, refl, sym, ap, subst, ◌∙◌}
-use mathlib.Core.Bool.{Bool, true, false, cond, not, ◌&&◌, true≢false}
-use mathlib.Core.Logic.{⊎_elim}
+use Rattle.std.proofs.Common.{ℕ, ◌<◌, arith, ltb, lt-ltb, ltb-true, ◌≡◌, refl, sym, ap, subst, ◌∙◌, Bool, true, false, cond, not, ◌&&◌, true≢false, ⊎_elim}
+use borrow.Author.Tests.{not-true}
 use Rattle.below.specs.Refusals.{granted}
 use Rattle.below.proofs.Tests.{and_true, and_left, and_right, and_false_left, and_false_right, decided, not_true_false, all_at, all_true}
 use Rattle.pages.specs.declared.line.Mark.{Mark}

@@ -1,9 +1,5 @@
 -- A row keeps its shape: a page of 8 lines, 5 slots for boxes, 8 for racks.
-use Prim.Native.Nat.{ℕ}
-use lib.Dec.{eqb}
-use lib.ListN.{length, length-set}
-use mathlib.Core.Path.{◌≡◌, sym, ap, ◌∙◌}
-use mathlib.Core.Bool.{Bool, true, false, cond}
+use Rattle.std.proofs.Common.{ℕ, eqb, length, length-set, ◌≡◌, sym, ap, ◌∙◌, Bool, true, false, cond}
 use Rattle.below.specs.Refusals.{granted}
 use Rattle.below.proofs.Rows.{length-row}
 use Rattle.pages.specs.declared.page.Page.{Page}

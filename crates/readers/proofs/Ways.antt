@@ -1,14 +1,8 @@
 -- Ways through the code that no other law covers: a box or rack that no slot is there for, an array filled turn by turn, and the set of
 -- racks held blank.
-use Prim.Native.Nat.{ℕ, ◌+◌, ◌-◌, ◌*◌, ◌%◌, ◌≤◌, ◌<◌}
-use native.Mathlib.Omega.{arith}
-use lib.Dec.{eqb}
-use lib.ListN.{length, set, get_or-eq_default}
-use lib.Seq.{set_out}
-use borrow.Author.Tests.{eqb-true}
-use mathlib.Core.Path.{◌≡◌, refl, ap, ◌∙◌}
-use mathlib.Core.Bool.{Bool, true, false, cond}
-use mathlib.Core.List.{List, []}
+use Rattle.std.proofs.Common.{ℕ, ◌+◌, ◌-◌, ◌*◌, ◌%◌, ◌≤◌, ◌<◌, arith, eqb, length, set, eqb-true, ◌≡◌, refl, ap, ◌∙◌, Bool, true, false, cond, List, []}
+use Rattle.std.proofs.Math.ListN.{get_or-eq_default}
+use Rattle.std.proofs.Math.Seq.{set_out}
 use Rattle.below.specs.Refusals.{granted}
 use Rattle.below.specs.Below.{count}
 use Rattle.below.proofs.Counts.{count_at_most}

@@ -1,10 +1,5 @@
 -- The rules that several kinds share, taken apart and put together: what the laws 'rules kept' of the steps go by.
-use Prim.Native.Nat.{ℕ, ◌≤◌, ◌<◌}
-use lib.Dec.{ltb, eqb}
-use borrow.Author.Tests.{leb-true, lt-ltb, eq-eqb}
-use mathlib.Core.Path.{◌≡◌, refl, sym, subst, ◌∙◌}
-use mathlib.Core.Bool.{Bool, true, false, cond, ◌||◌, true≢false}
-use mathlib.Core.Logic.{⊎_elim}
+use Rattle.std.proofs.Common.{ℕ, ◌≤◌, ◌<◌, ltb, eqb, leb-true, lt-ltb, eq-eqb, ◌≡◌, refl, sym, subst, ◌∙◌, Bool, true, false, cond, ◌||◌, true≢false, ⊎_elim}
 use Rattle.below.proofs.Tests.{and_true, and_left, and_right, or_cases, or_true_left, or_true_right}
 use Rattle.pages.specs.declared.page.Page.{Page}
 use Rattle.pages.specs.declared.page.Vote.{Vote}

@@ -1,13 +1,6 @@
 -- A rehearsal prints what its input says, in whatever pieces the input comes: `rehearsal_in_pieces`.
-use Prim.Native.Nat.{ℕ, ◌≤◌, min}
-use native.Mathlib.Nat.{min-eq_left}
-use native.Mathlib.Omega.{arith}
-use lib.Dec.{leb, ltb, eqb}
-use lib.ListN.{length}
-use borrow.Author.Tests.{leb-true, eqb-true}
-use mathlib.Core.Path.{◌≡◌, refl, sym, ap, ◌∙◌}
-use mathlib.Core.Bool.{Bool, true, false, cond, ◌&&◌}
-use mathlib.Core.List.{List, [], ◌∷◌, ◌++◌, append_assoc, append-nil}
+use Rattle.std.proofs.Common.{ℕ, ◌≤◌, min, arith, leb, ltb, eqb, length, leb-true, eqb-true, ◌≡◌, refl, sym, ap, ◌∙◌, Bool, true, false, cond, ◌&&◌, List, [], ◌∷◌, ◌++◌, append_assoc, append-nil}
+use Rattle.std.proofs.Math.Nat.{min-eq_left}
 use Rattle.below.specs.Refusals.{granted}
 use Rattle.below.proofs.Tests.{and_left, and_right}
 use Rattle.below.proofs.Granted.{unless_held, unless_later}

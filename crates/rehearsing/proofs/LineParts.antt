@@ -1,13 +1,5 @@
 -- A part of a line: bytes before the LF print nothing, and the LF is the line's turn.
-use Prim.Native.Nat.{ℕ, suc, ◌+◌, ◌-◌, ◌≤◌, ◌<◌}
-use native.Mathlib.Omega.{arith}
-use lib.Dec.{eqb}
-use lib.ListN.{length, take, drop, length-drop}
-use lib.Seq.{take_all}
-use borrow.Author.Tests.{eqb-true}
-use mathlib.Core.Path.{◌≡◌, refl, sym, ap, subst, ◌∙◌}
-use mathlib.Core.Bool.{Bool, true, false, cond}
-use mathlib.Core.List.{List, [], ◌∷◌, ◌++◌}
+use Rattle.std.proofs.Common.{ℕ, suc, ◌+◌, ◌-◌, ◌≤◌, ◌<◌, arith, eqb, length, take, drop, length-drop, take_all, eqb-true, ◌≡◌, refl, sym, ap, subst, ◌∙◌, Bool, true, false, cond, List, [], ◌∷◌, ◌++◌}
 use Rattle.lines.specs.declared.scan.Scan.{Scan}
 use Rattle.lines.specs.declared.scan.NumbersRead.{NumbersRead}
 use Rattle.lines.specs.Fields.{line_feed, before_lf}
@@ -114,12 +106,12 @@ module _ (r : Rehearsal) (hall input : List ℕ) (from : ℕ) {scan : Scan} {end
         turned = subst (λ (x : Turn). Turned x at hall' old after r' next) (sym is) t;
       }
     where
-      length-is : end + 1 - from ≡ suc (length (before_lf rest))
-      length-is = omega (arith, fed.stopped)
+      length_is : end + 1 - from ≡ suc (length (before_lf rest))
+      length_is = omega (arith, fed.stopped)
 
       is : play_of r hall (take (end + 1 - from) rest) ≡ line_turn r.stage hall read
       is =
-          ap (λ (n : ℕ). play_of r hall (take n rest)) length-is ∙ part_line hall rest r (omega (arith, fed.stopped, length-drop from input)) ∙
+          ap (λ (n : ℕ). play_of r hall (take n rest)) length_is ∙ part_line hall rest r (omega (arith, fed.stopped, length-drop from input)) ∙
           ap (λ (x : NumbersRead). line_turn r.stage hall x) (sym (f ∙ ap finish_of fed.scanned))
 
   pub parted_open : (at : ℕ) (old : List ℕ) → length input ≤ end →

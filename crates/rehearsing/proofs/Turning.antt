@@ -1,11 +1,5 @@
 -- Turns, by the ways through the code.
-use Prim.Native.Nat.{ℕ, ◌+◌, ◌≤◌}
-use native.Mathlib.Omega.{arith}
-use lib.ListN.{length}
-use borrow.Author.Tests.{eq-eqb, ne_eqb}
-use mathlib.Core.Path.{◌≡◌, refl, sym, ap, subst, ◌∙◌}
-use mathlib.Core.Bool.{Bool, true, false, cond}
-use mathlib.Core.List.{List, []}
+use Rattle.std.proofs.Common.{ℕ, ◌+◌, ◌≤◌, arith, length, eq-eqb, ne_eqb, ◌≡◌, refl, sym, ap, subst, ◌∙◌, Bool, true, false, cond, List, []}
 use Rattle.below.specs.Refusals.{granted}
 use Rattle.words.proofs.Splices.{splice_none}
 use Rattle.hall.specs.Halls.{hall_size, setup_refusal, Sets}

@@ -1,8 +1,5 @@
 -- Two majorities share a box, over any number of boxes.
-use Prim.Native.Nat.{ℕ, ◌≤◌, ◌<◌}
-use native.Mathlib.Omega.{arith}
-use mathlib.Core.Path.{◌≡◌}
-use mathlib.Core.Bool.{Bool, true}
+use Rattle.std.proofs.Common.{ℕ, ◌≤◌, ◌<◌, arith, ◌≡◌, Bool, true}
 use Rattle.below.specs.Below.{count}
 use Rattle.below.proofs.Counts.{count_some, counts_meet}
 use Rattle.rounds.specs.Setups.{majority_of}

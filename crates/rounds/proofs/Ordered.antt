@@ -1,12 +1,8 @@
 -- What the comparison of two rounds means: order by n, then c; equal only if all three agree; a clash otherwise.
-use Prim.Native.Nat.{ℕ, ◌+◌, ◌*◌, ◌≤◌, ◌<◌}
-use native.Mathlib.Omega.{arith}
-use lib.Dec.{leb, ltb, eqb}
-use native.Mathlib.Decide.{dec_lt}
-use borrow.Author.Tests.{ltb-true, ltb-false, leb-true, eqb-true, eqb-false}
-use mathlib.Core.Path.{◌≡◌, refl, sym, subst}
-use mathlib.Core.Bool.{Bool, true, false, cond, not, ◌&&◌, ◌||◌, false≢true}
-use mathlib.Core.Logic.{◌⊎◌, inl, inr, ⊎_elim}
+use Rattle.std.proofs.Common.{ℕ, ◌+◌, ◌*◌, ◌≤◌, ◌<◌, arith, leb, ltb, eqb, ltb-true, ltb-false, leb-true, eqb-true, ◌≡◌, refl, sym, subst, Bool, true, false, cond, not, ◌&&◌, ◌||◌, ◌⊎◌, inl, inr, ⊎_elim}
+use Rattle.std.proofs.Math.Decide.{dec_lt}
+use borrow.Author.Tests.{eqb-false}
+use Rattle.std.proofs.Math.Bool.{false≢true}
 use Rattle.below.proofs.Tests.{and_left, and_right}
 use Rattle.rounds.specs.declared.setup.Setup.{Setup}
 use Rattle.rounds.specs.declared.round.Round.{Round}

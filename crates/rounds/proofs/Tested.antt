@@ -1,12 +1,6 @@
 -- What the tests of setups and rounds come to on the ways through the code.
-use Prim.Native.Nat.{ℕ, ◌/◌, ◌^◌, ◌≤◌, ◌<◌}
-use native.Mathlib.Omega.{arith}
-use native.Mathlib.Nat.{div-eq_of_lt, lt-div-mul-add}
-use lib.Dec.{leb, ltb, eqb}
-use lib.Pow.{pow_mono, pow_pos}
-use borrow.Author.Tests.{lt-ltb, le-ltb, eq-eqb, ltb-true, eqb-true}
-use mathlib.Core.Path.{◌≡◌, ◌∙◌}
-use mathlib.Core.Bool.{true, false}
+use Rattle.std.proofs.Common.{ℕ, ◌/◌, ◌^◌, ◌≤◌, ◌<◌, arith, leb, ltb, eqb, pow_mono, pow_pos, lt-ltb, le-ltb, eq-eqb, ltb-true, eqb-true, ◌≡◌, ◌∙◌, true, false}
+use Rattle.std.proofs.Math.Nat.{div-eq_of_lt, lt-div-mul-add}
 use Rattle.below.proofs.Tests.{same_yes}
 use Rattle.rounds.specs.Setups.{one_to, some_racks}
 

@@ -1,11 +1,5 @@
 -- Both round trips, size, bytes and soundness, for the head and each row.
-use Prim.Native.Nat.{ℕ, ◌≤◌}
-use native.Mathlib.Omega.{arith}
-use lib.Dec.{ltb, eqb}
-use lib.ListN.{length, get_or}
-use mathlib.Core.Path.{◌≡◌}
-use mathlib.Core.Bool.{Bool, true, false, cond, not, ◌&&◌, ◌||◌}
-use borrow.Author.Tests.{leb-true}
+use Rattle.std.proofs.Common.{ℕ, ◌≤◌, arith, ltb, eqb, length, get_or, ◌≡◌, Bool, true, false, cond, not, ◌&&◌, ◌||◌, leb-true}
 use Rattle.below.proofs.Tests.{and_left, and_right, all_at}
 use Rattle.pages.specs.declared.page.Page.{Page}
 use Rattle.pages.specs.Racks.{most_racks, racks_below}

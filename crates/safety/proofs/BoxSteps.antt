@@ -1,13 +1,7 @@
 -- The steps of a box move the history: 3 join, 9 take page, 10 take reading.
-use Prim.Native.Nat.{ℕ, ◌≤◌, ◌<◌}
-use native.Mathlib.Omega.{arith}
-use native.Mathlib.Nat.{le_refl, le_of_eq}
-use native.Mathlib.Decide.{dec_lt}
-use mathlib.Core.Path.{◌≡◌, refl, sym, ap, subst, ◌∙◌}
-use mathlib.Core.Bool.{true, false, true≢false}
-use mathlib.Core.Logic.{◌⊎◌, inl, inr, ⊎_elim}
+use Rattle.std.proofs.Common.{ℕ, ◌≤◌, ◌<◌, arith, le_refl, le_of_eq, ◌≡◌, refl, sym, ap, subst, ◌∙◌, true, false, true≢false, ◌⊎◌, inl, inr, ⊎_elim, List, [], ◌∷◌}
+use Rattle.std.proofs.Math.Decide.{dec_lt}
 use mathlib.Core.List.Memᴰ
-use mathlib.Core.List.{List, [], ◌∷◌}
 use Rattle.below.specs.Refusals.{granted}
 use Rattle.below.proofs.Tests.{decided}
 use Rattle.pages.specs.declared.line.Reading.{Reading}

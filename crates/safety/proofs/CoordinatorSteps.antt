@@ -1,10 +1,5 @@
 -- The steps of a coordinator move the history: 2 start, 4 hear, 5 open.
-use Prim.Native.Nat.{ℕ, ◌+◌, ◌*◌, ◌<◌}
-use native.Mathlib.Omega.{arith}
-use native.Mathlib.Nat.{lt_trans}
-use mathlib.Core.Path.{◌≡◌, refl, sym, ap, subst, ◌∙◌}
-use mathlib.Core.Bool.{true, false, true≢false}
-use mathlib.Core.Logic.{◌≢◌, ⊎_elim}
+use Rattle.std.proofs.Common.{ℕ, ◌+◌, ◌*◌, ◌<◌, arith, lt_trans, ◌≡◌, refl, sym, ap, subst, ◌∙◌, true, false, true≢false, ◌≢◌, ⊎_elim}
 use Rattle.below.specs.Refusals.{granted}
 use Rattle.below.proofs.Tests.{decided}
 use Rattle.pages.specs.declared.page.Page.{Page}

@@ -1,10 +1,5 @@
 -- Rows at the start: a freshly set up hall is kept true of the history in which nothing happened yet.
-use Prim.Native.Nat.{ℕ, ◌<◌}
-use native.Mathlib.Omega.{arith}
-use mathlib.Core.Path.{◌≡◌, refl, sym, ap, ◌∙◌}
-use lib.Dec.{eqb}
-use borrow.Author.Tests.{eq-eqb}
-use mathlib.Core.Bool.{true, false, cond, true≢false}
+use Rattle.std.proofs.Common.{ℕ, ◌<◌, arith, ◌≡◌, refl, sym, ap, ◌∙◌, eqb, eq-eqb, true, false, cond, true≢false}
 use Rattle.below.specs.Below.{row}
 use Rattle.pages.specs.declared.line.Mark.TheVariants.{Absent}
 use Rattle.pages.specs.Pages.{line, at, empty, none, some}

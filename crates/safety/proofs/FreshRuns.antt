@@ -1,10 +1,6 @@
 -- Demand 3 over a run of a freshly set up hall, seen as rows and messages: readers' pages at any two moments agree, their readings
 -- were offered, not every rack is blank, and 9 never occurs. (That pages only gain lines holds of every run: `run_gains`.)
-use Prim.Native.Nat.{ℕ, ◌<◌}
-use mathlib.Core.Path.{◌≡◌, subst, ◌∙◌}
-use mathlib.Core.Bool.{true}
-use mathlib.Core.Logic.{◌≢◌}
-use mathlib.Core.List.{List, append-nil}
+use Rattle.std.proofs.Common.{ℕ, ◌<◌, ◌≡◌, subst, ◌∙◌, true, ◌≢◌, List, append-nil}
 use Rattle.below.specs.Refusals.{lines_clash}
 use Rattle.pages.specs.declared.line.Reading.{Reading}
 use Rattle.pages.specs.declared.line.Mark.TheVariants.{Nil, Reading as reads}

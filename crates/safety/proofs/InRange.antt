@@ -1,11 +1,6 @@
 -- What the rules say of rounds: they are in range, so that c is below 4 and their order is that of their numbers.
-use Prim.Native.Nat.{ℕ, ◌≤◌, ◌<◌}
-use native.Mathlib.Omega.{arith}
-use native.Mathlib.Decide.{dec_lt}
-use mathlib.Core.Path.{◌≡◌, subst}
-use lib.Dec.{ltb, eqb}
-use mathlib.Core.Bool.{Bool, true, false, cond, not, ◌&&◌, ◌||◌, true≢false}
-use borrow.Author.Tests.{ltb-true, leb-true}
+use Rattle.std.proofs.Common.{ℕ, ◌≤◌, ◌<◌, arith, ◌≡◌, subst, ltb, eqb, Bool, true, false, cond, not, ◌&&◌, ◌||◌, true≢false, ltb-true, leb-true}
+use Rattle.std.proofs.Math.Decide.{dec_lt}
 use Rattle.below.proofs.Tests.{and_left, and_right, all_at}
 use Rattle.pages.specs.Lines.{mark_in_range}
 use Rattle.pages.specs.Racks.{has}

@@ -1,8 +1,5 @@
 -- What a step does to the history, and what it leaves to the other agents.
-use Prim.Native.Nat.{ℕ, ◌+◌, ◌*◌, ◌<◌}
-use mathlib.Core.Path.{◌≡◌, refl}
-use mathlib.Core.Logic.{◌≢◌}
-use mathlib.Core.List.{List}
+use Rattle.std.proofs.Common.{ℕ, ◌+◌, ◌*◌, ◌<◌, ◌≡◌, refl, ◌≢◌, List}
 use Rattle.rounds.specs.declared.setup.Setup.{Setup}
 use Rattle.history.specs.History.{Offer, History, Grows}
 use Rattle.history.specs.Sound.{Sound}

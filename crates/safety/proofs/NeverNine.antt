@@ -1,13 +1,6 @@
 -- Refusal 9 never occurs where rows and messages are true of a sound history: open, note vote and learn never meet lines that clash,
 -- and learn never comes to a page that is all Nil.
-use Prim.Native.Nat.{ℕ, ◌<◌}
-use native.Mathlib.Omega.{arith}
-use native.Mathlib.Nat.{le_trans}
-use lib.Dec.{eqb, leb}
-use borrow.Author.Tests.{lt-ltb}
-use mathlib.Core.Path.{◌≡◌, refl, sym, ap, subst, ◌∙◌}
-use mathlib.Core.Bool.{Bool, true, false, cond, not, ◌&&◌}
-use mathlib.Core.Logic.{◌⊎◌, ◌≢◌, ⊎_elim}
+use Rattle.std.proofs.Common.{ℕ, ◌<◌, arith, le_trans, eqb, leb, lt-ltb, ◌≡◌, refl, sym, ap, subst, ◌∙◌, Bool, true, false, cond, not, ◌&&◌, ◌⊎◌, ◌≢◌, ⊎_elim}
 use Rattle.below.specs.Refusals.{unless, granted, wrong_round, already_done, no_majority, lines_clash}
 use Rattle.below.proofs.Granted.{answer_number}
 use Rattle.pages.specs.declared.line.Mark.TheVariants.{Nil}

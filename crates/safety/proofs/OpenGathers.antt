@@ -1,11 +1,6 @@
 -- What open makes of the votes heard is what the history gathers: it is never refused with 9, and opens its round soundly.
-use Prim.Native.Nat.{ℕ, ◌≤◌, ◌<◌}
-use native.Mathlib.Omega.{arith}
-use native.Mathlib.Nat.{le_trans}
-use native.Mathlib.Decide.{dec_lt}
-use mathlib.Core.Path.{◌≡◌, refl, sym, ap, subst, ◌∙◌}
-use mathlib.Core.Bool.{true, false, true≢false}
-use mathlib.Core.Logic.{inl, inr}
+use Rattle.std.proofs.Common.{ℕ, ◌≤◌, ◌<◌, arith, le_trans, ◌≡◌, refl, sym, ap, subst, ◌∙◌, true, false, true≢false, inl, inr}
+use Rattle.std.proofs.Math.Decide.{dec_lt}
 use mathlib.Core.List.Memᴰ
 use Rattle.below.proofs.Tests.{and_left, and_right, and_true, not_false_true, not_true_false, any_none}
 use Rattle.pages.specs.declared.line.Mark.TheVariants.{Absent}

@@ -1,11 +1,6 @@
 -- A reader's page changes only by a granted learn of that reader, and so it only gains lines.
-use Prim.Native.Nat.{ℕ, ◌<◌}
-use native.Mathlib.Omega.{arith}
-use native.Mathlib.Decide.{ℕ_discrete}
-use mathlib.Core.Path.{◌≡◌, ap, ◌∙◌}
-use mathlib.Core.Bool.{true}
-use mathlib.Core.Logic.{◌⊎◌, inl, inr, ⊎_elim, ◌≢◌}
-use mathlib.Core.List.{List}
+use Rattle.std.proofs.Common.{ℕ, ◌<◌, arith, ◌≡◌, ap, ◌∙◌, true, ◌⊎◌, inl, inr, ⊎_elim, ◌≢◌, List}
+use Rattle.std.proofs.Math.Decide.{ℕ_discrete}
 use Rattle.below.specs.Refusals.{granted}
 use Rattle.pages.specs.Pages.{prefix_of}
 use Rattle.pages.proofs.PageLaws.{prefix_of_refl}

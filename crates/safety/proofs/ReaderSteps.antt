@@ -1,12 +1,6 @@
 -- The steps of a reader leave the history as it was, and what the reader keeps is true of it: 11 note vote, 12 note blank, 13 learn.
-use Prim.Native.Nat.{ℕ, ◌≤◌, ◌<◌}
-use native.Mathlib.Omega.{arith}
-use native.Mathlib.Nat.{le_trans}
-use native.Mathlib.Decide.{dec_lt}
-use lib.Dec.{ltb}
-use mathlib.Core.Path.{◌≡◌, sym, ap, subst, ◌∙◌}
-use mathlib.Core.Bool.{true, ◌&&◌}
-use mathlib.Core.Logic.{⊎_elim}
+use Rattle.std.proofs.Common.{ℕ, ◌≤◌, ◌<◌, arith, le_trans, ltb, ◌≡◌, sym, ap, subst, ◌∙◌, true, ◌&&◌, ⊎_elim}
+use Rattle.std.proofs.Math.Decide.{dec_lt}
 use Rattle.below.specs.Refusals.{granted}
 use Rattle.below.proofs.Tests.{and_left, and_right}
 use Rattle.pages.specs.declared.line.Mark.{Mark}

@@ -1,7 +1,5 @@
 -- What readers show, at whichever moments: their pages agree, their readings were offered, not every rack is blank.
-use Prim.Native.Nat.{ℕ, ◌<◌}
-use mathlib.Core.Path.{◌≡◌, ap, subst}
-use mathlib.Core.Bool.{true}
+use Rattle.std.proofs.Common.{ℕ, ◌<◌, ◌≡◌, ap, subst, true}
 use Rattle.pages.specs.declared.line.Reading.{Reading}
 use Rattle.pages.specs.declared.line.Mark.TheVariants.{Nil, Reading as reads}
 use Rattle.pages.specs.declared.page.Page.{Page}

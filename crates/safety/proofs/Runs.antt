@@ -1,7 +1,5 @@
 -- Runs of a hall and their moments: all histories of a run's moments grow to the last one.
-use Prim.Native.Nat.{ℕ, ◌<◌}
-use mathlib.Core.Path.{refl, sym, ap, ◌∙◌}
-use mathlib.Core.List.{List, [], ◌++◌, append_assoc}
+use Rattle.std.proofs.Common.{ℕ, ◌<◌, refl, sym, ap, ◌∙◌, List, [], ◌++◌, append_assoc}
 use Rattle.pages.proofs.PageLaws.{prefix_of_refl, prefix_of_trans}
 use Rattle.rounds.specs.declared.setup.Setup.{Setup}
 use Rattle.history.specs.History.{Offer, History}

@@ -1,10 +1,6 @@
 -- What holds of the slots of a row: of a row of equal slots, and after one was filled.
-use Prim.Native.Nat.{ℕ, zero, suc, ◌<◌}
-use native.Mathlib.Omega.{arith}
-use native.Mathlib.Decide.{dec_lt}
-use mathlib.Core.Path.{sym, subst}
-use lib.ListN.{get_or, set}
-use mathlib.Core.List.{List, [], ◌∷◌}
+use Rattle.std.proofs.Common.{ℕ, zero, suc, ◌<◌, arith, sym, subst, get_or, set, List, [], ◌∷◌}
+use Rattle.std.proofs.Math.Decide.{dec_lt}
 use Rattle.below.specs.Below.{row}
 use Rattle.below.proofs.Rows.{row_at, row_past}
 

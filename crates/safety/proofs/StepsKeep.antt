@@ -1,8 +1,5 @@
 -- Each granted step of document 01 keeps a hall true, of a history that grew.
-use Prim.Native.Nat.{ℕ, ◌<◌}
-use mathlib.Core.Path.{◌≡◌, sym, subst}
-use mathlib.Core.Bool.{true}
-use mathlib.Core.List.{List, [], ◌∷◌, ◌++◌}
+use Rattle.std.proofs.Common.{ℕ, ◌<◌, ◌≡◌, sym, subst, true, List, [], ◌∷◌, ◌++◌}
 use Rattle.below.specs.Refusals.{granted}
 use Rattle.pages.specs.declared.line.Reading.{Reading}
 use Rattle.rounds.specs.declared.setup.Setup.{Setup}

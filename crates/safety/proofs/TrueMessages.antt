@@ -1,7 +1,5 @@
 -- What a sent message says that is true of the history, for good: a message may be handed over late, twice or never.
-use Prim.Native.Nat.{ℕ}
-use mathlib.Core.Path.{◌≡◌, refl}
-use mathlib.Core.Bool.{true, false}
+use Rattle.std.proofs.Common.{ℕ, ◌≡◌, refl, true, false}
 use Rattle.pages.specs.Pages.{empty_of}
 use Rattle.rounds.proofs.Ordered.{key}
 use Rattle.records.specs.declared.messages.Propose.{Propose}

@@ -1,9 +1,6 @@
 -- A hall as rows and sent messages, and what is kept true of it: whatever holds the rows, blocks or other, is seen through this.
-use Prim.Native.Nat.{ℕ, ◌<◌}
-use native.Mathlib.Decide.{ℕ_discrete}
-use mathlib.Core.Path.{◌≡◌, subst}
-use mathlib.Core.Logic.{◌⊎◌, ◌≢◌, ⊎_elim}
-use mathlib.Core.List.{List}
+use Rattle.std.proofs.Common.{ℕ, ◌<◌, ◌≡◌, subst, ◌⊎◌, ◌≢◌, ⊎_elim, List}
+use Rattle.std.proofs.Math.Decide.{ℕ_discrete}
 use Rattle.rounds.specs.declared.setup.Setup.{Setup}
 use Rattle.records.specs.declared.rows.CoordinatorRow.{CoordinatorRow}
 use Rattle.records.specs.declared.rows.BoxRow.{BoxRow}

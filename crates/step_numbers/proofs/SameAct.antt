@@ -1,13 +1,6 @@
 -- An act looks only at the numbers and at the message that its step names; so the numbers that are in range may be narrowed, and
 -- any block may stand where no message is named.
-use Prim.Native.Nat.{ℕ, zero, suc, ◌%◌, ◌≤◌, ◌<◌}
-use native.Mathlib.Omega.{arith}
-use native.Mathlib.Nat.{mod-eq_of_lt}
-use lib.Dec.{eqb, ltb}
-use borrow.Author.Tests.{ltb-true, leb-true, eqb-true}
-use mathlib.Core.Path.{◌≡◌, refl, ap, subst, ◌∙◌}
-use mathlib.Core.Bool.{Bool, true, false, not, ◌||◌}
-use mathlib.Core.List.{List}
+use Rattle.std.proofs.Common.{ℕ, zero, suc, ◌%◌, ◌≤◌, ◌<◌, arith, mod-eq_of_lt, eqb, ltb, ltb-true, leb-true, eqb-true, ◌≡◌, refl, ap, subst, ◌∙◌, Bool, true, false, not, ◌||◌, List}
 use Rattle.below.specs.Refusals.{unless, granted, bad_block, other_hall}
 use Rattle.below.proofs.Tests.{and_left, and_right}
 use Rattle.rounds.specs.declared.setup.Setup.{Setup}

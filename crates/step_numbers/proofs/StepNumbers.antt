@@ -1,11 +1,6 @@
 -- Which rows a code's agents have, and that what a step names lies within the hall.
-use Prim.Native.Nat.{ℕ, ◌+◌, ◌≤◌, ◌<◌}
-use native.Mathlib.Omega.{arith}
-use lib.Dec.{eqb, leb}
-use borrow.Author.Tests.{le-leb, lt-leb, ne_eqb}
-use mathlib.Core.Path.{◌≡◌, refl, sym, subst}
-use mathlib.Core.Bool.{Bool, true, false, cond, ◌&&◌, ◌||◌}
-use mathlib.Core.Logic.{◌⊎◌, inl, inr}
+use Rattle.std.proofs.Common.{ℕ, ◌+◌, ◌≤◌, ◌<◌, arith, eqb, leb, le-leb, ne_eqb, ◌≡◌, refl, sym, subst, Bool, true, false, cond, ◌&&◌, ◌||◌, ◌⊎◌, inl, inr}
+use borrow.Author.Tests.{lt-leb}
 use Rattle.below.proofs.Tests.{and_true, and_false_right, or_true_right}
 use Rattle.rounds.specs.declared.setup.Setup.{Setup}
 use Rattle.blocks.proofs.Ranges.{SetupFits}

@@ -1,7 +1,7 @@
 -- Laws of `splice`.
-use Rattle.std.proofs.Common.{◌≡◌, ℕ, ◌+◌, ◌<◌, ◌≤◌, List, [], ◌∷◌, ◌++◌, length, get_or, take, drop, set, sym, ap, ◌∙◌, subst, append_assoc, append-nil, add_assoc, add-one, arith, length-append, length-drop, length-set, take-append-drop, drop_of_length-le, length-take-le, get_or-drop, get_or-take, drop-drop, take_at, get_or-append-add}
-use lib.ListN.{get_or-append}
-use lib.Seq.{set_split, drop-append-add}
+use Rattle.std.proofs.Common.{add-zero, ◌≡◌, ℕ, ◌+◌, ◌<◌, ◌≤◌, List, [], ◌∷◌, ◌++◌, length, get_or, take, drop, set, sym, ap, ◌∙◌, subst, append_assoc, append-nil, add_assoc, add-one, arith, length-append, length-drop, length-set, take-append-drop, drop_of_length-le, length-take-le, get_or-drop, get_or-take, drop-drop, take_at, get_or-append-add}
+use Rattle.std.proofs.Math.ListN.{get_or-append}
+use Rattle.std.proofs.Math.Seq.{set_split, drop-append-add}
 use Rattle.words.specs.Bytes.{splice, Spliced}
 
 -- a splice that fits keeps the length
@@ -17,7 +17,7 @@ stored at x old h = record { is = set_split old at x (omega arith) ∙ ap (λ (n
 -- nothing written
 pub splice_none : (at : ℕ) (old : List ℕ) → splice at [] old ≡ old
 unfolding splice
-splice_none at old = rw (native.Mathlib.Nat.add-zero) (take-append-drop at old)
+splice_none at old = rw add-zero (take-append-drop at old)
 
 -- two neighbours are one
 pub splice_next : (at : ℕ) (a b old : List ℕ) → at + length a ≤ length old → splice (at + length a) b (splice at a old) ≡ splice at (a ++ b) old

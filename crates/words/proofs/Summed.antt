@@ -1,6 +1,6 @@
 -- Laws of the check words: one word more, a run of words more, words that agree, words added, and the sums of 126 words by thirds.
 use Rattle.std.proofs.Common.{◌≡◌, ℕ, zero, suc, ◌+◌, ◌*◌, ◌/◌, ◌%◌, ◌^◌, ◌<◌, ◌≤◌, List, length, get_or, set, sym, refl, ap, ◌∙◌, subst, add-zero, add-suc, suc-mul, add-mul, le_antisymm, zero-add, add-one, arith}
-use native.Mathlib.Nat.{add-mul-mod_self_right}
+use Rattle.std.proofs.Math.Nat.{add-mul-mod_self_right}
 use Rattle.below.specs.Below.{row}
 use Rattle.below.proofs.Rows.{row_at, filled, filled_more}
 use Rattle.words.specs.Bytes.{number4}

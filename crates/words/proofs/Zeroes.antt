@@ -1,6 +1,7 @@
 -- Laws of runs of zeros.
 use Rattle.std.proofs.Common.{◌≡◌, ℕ, zero, suc, ◌+◌, ◌-◌, ◌*◌, ◌<◌, ◌≤◌, Bool, true, false, ◌&&◌, eqb, List, [], ◌∷◌, length, sym, refl, ap, ◌∙◌, subst, add-zero, add_assoc, le_antisymm, arith, eq-eqb, eqb-true}
-use lib.ListN.{length-replicate, replicate-append-replicate}
+use Rattle.std.proofs.Math.Decide.{dec_lt}
+use Rattle.std.proofs.Math.ListN.{length-replicate, replicate-append-replicate}
 use Rattle.below.proofs.Tests.{all_at, all_true, same_yes, and_true, and_left, and_right, not_true_false}
 use Rattle.words.specs.Bytes.{byte, number4, zeros, zero_at, Spliced}
 use Rattle.words.proofs.Splices.{next, splice_none}
@@ -20,7 +21,7 @@ module _ (bytes : List ℕ) where
       same_yes (zero_at (m + n) bytes at) (zero_at m bytes at && zero_at n bytes (at + m))
       (λ h. and_true (zero_true m at (λ k l. zero_at_lem (m + n) at h k (omega arith)))
       (zero_true n (at + m) (λ k l. ap (λ (j : ℕ). byte bytes j) (add_assoc at m k) ∙ zero_at_lem (m + n) at h (m + k) (omega arith))))
-      (λ h. zero_true (m + n) at (λ k l. one k l h (native.Mathlib.Decide.dec_lt k m)))
+      (λ h. zero_true (m + n) at (λ k l. one k l h (dec_lt k m)))
     where
       one : (k : ℕ) → k < m + n → zero_at m bytes at && zero_at n bytes (at + m) ≡ true → Dec (k < m) → byte bytes (at + k) ≡ 0
       one k l h (yes b) = zero_at_lem m at (and_left _ _ h) k b

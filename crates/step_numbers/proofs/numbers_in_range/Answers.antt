@@ -1,5 +1,4 @@
-use Rattle.std.proofs.Common.{arith}
-use borrow.Author.Tests.{ne_eqb}
+use Rattle.std.proofs.Common.{arith, ne_eqb}
 use Rattle.hall.specs.Steps.{numbers_in_range}
 use Rattle.step_numbers.proofs.numbers_in_range.Goals as goal
 

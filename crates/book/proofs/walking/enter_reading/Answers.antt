@@ -1,5 +1,4 @@
-use Rattle.std.proofs.Common.{rules, sym}
-use lib.Seq.{length-take-le}
+use Rattle.std.proofs.Common.{rules, sym, length-take-le}
 use Rattle.book.proofs.Steps.{skipped, added}
 use Rattle.book.proofs.walking.enter_reading.Goals as goal
 

@@ -1,5 +1,4 @@
-use Rattle.std.proofs.Common.{eq-eqb}
-use borrow.Author.Tests.{ne_eqb}
+use Rattle.std.proofs.Common.{eq-eqb, ne_eqb}
 use Rattle.below.specs.Below.{row}
 use Rattle.pages.specs.Pages.{empty, page}
 use Rattle.boxes.specs.Steps.{join_refusal, join_row, join_sent, join_of}

@@ -1,5 +1,4 @@
-use Rattle.std.proofs.Common.{eq-eqb}
-use borrow.Author.Tests.{ne_eqb}
+use Rattle.std.proofs.Common.{eq-eqb, ne_eqb}
 use Rattle.fields.proofs.lines.line_exact.Goals as goal
 
 pub returns-else-state-eq2 : goal.returns-else-state-eq2

@@ -1,5 +1,4 @@
-use Rattle.std.proofs.Common.{eq-eqb}
-use borrow.Author.Tests.{ne_eqb}
+use Rattle.std.proofs.Common.{eq-eqb, ne_eqb}
 use Rattle.fields.proofs.lines.line_of.Goals as goal
 
 pub returns-then-state-eq2 : goal.returns-then-state-eq2

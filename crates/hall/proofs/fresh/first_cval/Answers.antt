@@ -1,5 +1,4 @@
-use Rattle.std.proofs.Common.{eq-eqb}
-use borrow.Author.Tests.{ne_eqb}
+use Rattle.std.proofs.Common.{eq-eqb, ne_eqb}
 use Rattle.below.specs.Below.{row}
 use Rattle.pages.specs.Pages.{page, empty}
 use Rattle.hall.proofs.fresh.first_cval.Goals as goal

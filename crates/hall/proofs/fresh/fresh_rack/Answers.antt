@@ -1,4 +1,4 @@
-use borrow.Author.Tests.{lt-ltb, le-ltb}
+use Rattle.std.proofs.Common.{lt-ltb, le-ltb}
 use Rattle.below.specs.Below.{row}
 use Rattle.pages.specs.Pages.{page, empty}
 use Rattle.hall.proofs.fresh.fresh_rack.Goals as goal

@@ -1,5 +1,4 @@
-use Rattle.std.proofs.Common.{eq-eqb}
-use borrow.Author.Tests.{ne_eqb}
+use Rattle.std.proofs.Common.{eq-eqb, ne_eqb}
 use Rattle.racks.specs.Steps.{prepare_refusal, prepare_row, prepare_of}
 use Rattle.racks.proofs.steps.prepare.Goals as goal
 

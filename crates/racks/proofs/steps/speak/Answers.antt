@@ -1,5 +1,4 @@
-use Rattle.std.proofs.Common.{eq-eqb}
-use borrow.Author.Tests.{ne_eqb}
+use Rattle.std.proofs.Common.{eq-eqb, ne_eqb}
 use Rattle.racks.proofs.steps.speak.Goals as goal
 
 pub returns-then-number-eq-GRANTED : goal.returns-then-number-eq-GRANTED

@@ -1,4 +1,5 @@
-use borrow.Author.Tests.{le-leb, lt-leb}
+use Rattle.std.proofs.Common.{le-leb}
+use borrow.Author.Tests.{lt-leb}
 use Rattle.rehearsing.proofs.InParts.{turned_in, turned_none}
 use Rattle.rehearsing.proofs.playing.end.Goals as goal
 

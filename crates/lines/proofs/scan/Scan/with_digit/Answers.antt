@@ -1,4 +1,5 @@
-use borrow.Author.Tests.{le-leb, lt-leb}
+use Rattle.std.proofs.Common.{le-leb}
+use borrow.Author.Tests.{lt-leb}
 use Rattle.lines.proofs.scan.Scan.with_digit.Goals as goal
 
 pub returns-then-value-le-LARGEST : goal.returns-then-value-le-LARGEST

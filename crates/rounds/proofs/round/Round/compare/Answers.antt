@@ -1,5 +1,4 @@
-use Rattle.std.proofs.Common.{eq-eqb}
-use borrow.Author.Tests.{lt-ltb, le-ltb, ne_eqb}
+use Rattle.std.proofs.Common.{eq-eqb, lt-ltb, le-ltb, ne_eqb}
 use Rattle.rounds.specs.Rounds.{order_of}
 use Rattle.rounds.proofs.round.Round.compare.Goals as goal
 
