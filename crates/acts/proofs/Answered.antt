@@ -1,77 +1,185 @@
--- The ways through the code of an act, by what its calls answered. An answer of a step is of some type `X`, with a refusal, a row and,
--- where the step sends, a message.
-use Rattle.std.proofs.Common.{ℕ, eqb, length, ◌≡◌, refl, sym, ap, ◌∙◌, true, false, List}
-use Rattle.below.specs.Refusals.{granted}
+-- What an act answers and writes, from what the code of its shape promises: once for each shape, over any step.
+use Rattle.std.proofs.Common.{ℕ, eqb, ◌≡◌, refl, sym, ap, ◌∙◌, Bool, true, false, cond, ◌&&◌, List, eq-eqb, eqb-true, ne_eqb, subst, Result, Ok, Err}
+use Rattle.std.specs.Result.{MatchResult}
+use borrow.Author.Tests.{eqb-false}
+use Rattle.below.proofs.Tests.{and_false_right}
+use Rattle.below.specs.declared.refusals.Refusal.{Refusal}
+use Rattle.below.specs.Refusals.{granted, number, number_of, value_or}
+use Rattle.below.proofs.Refused.{number_some}
 use Rattle.records.specs.declared.stamp.Stamp.{Stamp}
-use Rattle.blocks.specs.Frame.{block_size}
+use Rattle.records.specs.declared.granted.Granted.{Granted}
+use Rattle.records.specs.Answers.{Answer, Noted, answer_of, noted_of}
 use Rattle.blocks.specs.Kinds.{Kind, encode}
-use Rattle.blocks.specs.Answers.{Reads}
-use Rattle.acts.specs.Acts.{Act, on_row, on_both, sending, silent}
-use Rattle.acts.specs.Named.{stamp_of, both_refusal, row_refusal, row_found, both_found}
-use Rattle.acts.specs.Answers.{Acts, Keeps}
+use Rattle.acts.specs.Acts.{Act, body_of, on_row, on_both, sending, silent}
+use Rattle.acts.specs.Named.{stamp_of, row_refusal, both_refusal}
+use Rattle.acts.specs.Answers.{Acts}
+use Rattle.acts.specs.Shapes.{Sends, Stays}
 use Rattle.acts.proofs.Familiar.{Familiar}
-use Rattle.acts.proofs.Ways.{row_unnamed, row_unfit, row_done, row_left_lem, row_misfit, row_kept, both_unnamed, both_unfit, both_done, both_left, both_misfit, both_kept}
+use Rattle.acts.proofs.Ways.{row_says, row_own, row_granted, row_refused, both_say, both_own, both_granted, both_refused}
 
-module _ {R M S : Type 0} (kr : Kind R) (km : Kind M) (ks : Kind S) (fr : Familiar kr) (fm : Familiar km) (X : Type 0) (number : X → ℕ) (after : X → R) (told : X → S) (step : Stamp → Stamp → R → M → X) (hall : Stamp) (late : ℕ) {row message : List ℕ} {rn mn no : ℕ} {rs ms : Stamp} {r : R} {m : M} (l : length row ≡ block_size) (l' : length message ≡ block_size) (p : Reads kr row rn rs r) (q : Reads km message mn ms m) (found : no ≡ both_found hall late row (eqb rn granted) message (eqb mn granted)) where
-  abbrev both_sends_own : Stamp → Stamp → R → M → Act
-  both_sends_own s t r m = sending kr ks s (number (step s t r m)) (after (step s t r m)) (told (step s t r m))
+-- refused: the buffers stay
+pub stays : {found : ℕ} {act : Act} (result : Result Bool Refusal) {a s a' s' : List ℕ} → (found ≡ granted → ⊥) → number_of result ≡ found → a' ≡ a → s' ≡ s →
+    Acts found act (number_of result) (value_or false result) a s a' s'
+stays {found} {act} result {a} {s} h e p q =
+    record {
+      numbered = e;
+      sending = silent result e ∙ ap (λ (b : Bool). b && act.sends) (sym off);
+      kept = p ∙ ap (λ (b : Bool). cond b act.row a) (sym off);
+      told = q ∙ ap (λ (b : Bool). cond (b && act.sends) act.sent s) (sym off);
+    }
+  where
+    off : eqb found granted ≡ false
+    off = ne_eqb found granted h
 
-  -- refused for the blocks
-  pub both_sends_not : {a s : List ℕ} → (no ≡ granted → ⊥) → Acts (both_refusal hall late row message (on_both kr km row message (both_sends_own (stamp_of row) (stamp_of message))).refusal) (on_both kr km row message (both_sends_own (stamp_of row) (stamp_of message))) no false a s a s
-  both_sends_not h = both_unnamed kr km fr fm both_sends_own hall late l l' p q found h
+    silent : (r : Result Bool Refusal) → number_of r ≡ found → value_or false r ≡ false
+    silent (Ok b) z = absurd (h (sym z))
+    silent (Err e) z = refl
 
-  -- refused by the step
-  pub both_sends_no : {a s : List ℕ} {x : X} → no ≡ granted → x ≡ step rs ms r m → (number x ≡ granted → ⊥) → Acts (both_refusal hall late row message (on_both kr km row message (both_sends_own (stamp_of row) (stamp_of message))).refusal) (on_both kr km row message (both_sends_own (stamp_of row) (stamp_of message))) (number x) false a s a s
-  both_sends_no z e h = both_unfit kr km fr fm both_sends_own hall late l l' p q found z (ap number e) h
+-- granted: the row after, and the message where one is sent
+pub does : {number : ℕ} {act : Act} {a s a' s' : List ℕ} → number ≡ granted → act.sends ≡ true → a' ≡ act.row → s' ≡ act.sent → Acts number act granted true a s a' s'
+does {number} {act} {a} {s} e t p q =
+    record {
+      numbered = sym e;
+      sending = join (sym on) (sym t);
+      kept = p ∙ ap (λ (b : Bool). cond b act.row a) (sym on);
+      told = q ∙ ap (λ (b : Bool). cond b act.sent s) (join (sym on) (sym t));
+    }
+  where
+    on : eqb number granted ≡ true
+    on = eq-eqb number granted e
 
-  pub both_sends_yes : {a s a' s' : List ℕ} {x : X} → no ≡ granted → x ≡ step rs ms r m → number x ≡ granted → a' ≡ encode kr rs (after x) → s' ≡ encode ks rs (told x) →
-      Acts (both_refusal hall late row message (on_both kr km row message (both_sends_own (stamp_of row) (stamp_of message))).refusal) (on_both kr km row message (both_sends_own (stamp_of row) (stamp_of message))) granted true a s a' s'
-  both_sends_yes z e g u v = both_done kr km fr fm both_sends_own hall late l l' p q found z (sym (ap number e) ∙ g) refl (u ∙ ap (λ (y : X). encode kr rs (after y)) e) (v ∙ ap (λ (y : X). encode ks rs (told y)) e)
+    join : {x y : Bool} → true ≡ x → true ≡ y → true ≡ x && y
+    join u v = rw (← u, ← v)
 
-module _ {R M : Type 0} (kr : Kind R) (km : Kind M) (fr : Familiar kr) (fm : Familiar km) (X : Type 0) (number : X → ℕ) (after : X → R) (step : Stamp → Stamp → R → M → X) (hall : Stamp) (late : ℕ) {row message : List ℕ} {rn mn no : ℕ} {rs ms : Stamp} {r : R} {m : M} (l : length row ≡ block_size) (l' : length message ≡ block_size) (p : Reads kr row rn rs r) (q : Reads km message mn ms m) (found : no ≡ both_found hall late row (eqb rn granted) message (eqb mn granted)) where
-  abbrev both_keeps_own : Stamp → Stamp → R → M → Act
-  both_keeps_own s t r m = silent kr s (number (step s t r m)) (after (step s t r m))
+pub rests : {number : ℕ} {act : Act} {a s a' : List ℕ} → number ≡ granted → act.sends ≡ false → a' ≡ act.row → Acts number act granted false a s a' s
+rests {number} {act} {a} {s} e t p =
+    record {
+      numbered = sym e;
+      sending = sym off;
+      kept = p ∙ ap (λ (b : Bool). cond b act.row a) (sym (eq-eqb number granted e));
+      told = ap (λ (b : Bool). cond b act.sent s) (sym off);
+    }
+  where
+    off : eqb number granted && act.sends ≡ false
+    off = and_false_right (eqb number granted) t
 
-  -- refused for the blocks
-  pub both_keeps_not : {a : List ℕ} → (no ≡ granted → ⊥) → Keeps (both_refusal hall late row message (on_both kr km row message (both_keeps_own (stamp_of row) (stamp_of message))).refusal) (on_both kr km row message (both_keeps_own (stamp_of row) (stamp_of message))) no a a
-  both_keeps_not h = both_left kr km fr fm both_keeps_own hall late l l' p q found h
+-- an answer is the code's result, whatever that is
+answered : {n : ℕ} {act : Act} {result r : Result Bool Refusal} {a s a' s' : List ℕ} → result ≡ r → Acts n act (number_of r) (value_or false r) a s a' s' →
+    Acts n act (number_of result) (value_or false result) a s a' s'
+answered {n} {act} {result} {r} {a} {s} {a'} {s'} e h = subst (λ (x : Result Bool Refusal). Acts n act (number_of x) (value_or false x) a s a' s') (sym e) h
 
-  -- refused by the step
-  pub both_keeps_no : {a : List ℕ} {x : X} → no ≡ granted → x ≡ step rs ms r m → (number x ≡ granted → ⊥) → Keeps (both_refusal hall late row message (on_both kr km row message (both_keeps_own (stamp_of row) (stamp_of message))).refusal) (on_both kr km row message (both_keeps_own (stamp_of row) (stamp_of message))) (number x) a a
-  both_keeps_no z e h = both_misfit kr km fr fm both_keeps_own hall late l l' p q found z (ap number e) h
+-- a step that sends has reached its own definition: `n` and `act` are what that makes of the records
+sent : {R S : Type 0} (kr : Kind R) (ks : Kind S) (stamp : Stamp) (x : Answer R S) (row : R) (nothing : S) {n : ℕ} {act : Act} {post : Result (Granted R S) Refusal → Type 0} {result : Result Bool Refusal} {a s a' s' : List ℕ} →
+    ((y : Result (Granted R S) Refusal) → post y → answer_of row nothing y ≡ x) → n ≡ x.refusal → act.sends ≡ true → act.row ≡ encode kr stamp x.row → act.sent ≡ encode ks stamp x.sent →
+    Sends kr ks stamp post a s a' s' result → Acts n act (number_of result) (value_or false result) a s a' s'
+sent {R} {S} kr ks stamp x row nothing {n} {act} {post} {result} {a} {s} {a'} {s'} h e on f t reached = go reached.0 reached.1 reached.2
+  where
+    go : (y : Result (Granted R S) Refusal) → post y → MatchResult y (λ g. (result ≡ Ok true) × (a' ≡ encode kr stamp g.row) × (s' ≡ encode ks stamp g.sent)) (λ e. (result ≡ Err e) × (a' ≡ a) × (s' ≡ s)) →
+        Acts n act (number_of result) (value_or false result) a s a' s'
+    go (Ok g) p m =
+        answered m.0
+        (does (e ∙ ap (λ (z : Answer R S). z.refusal) (sym (h (Ok g) p))) on
+        (m.1 ∙ ap (λ (z : Answer R S). encode kr stamp z.row) (h (Ok g) p) ∙ sym f)
+        (m.2 ∙ ap (λ (z : Answer R S). encode ks stamp z.sent) (h (Ok g) p) ∙ sym t))
+    go (Err d) p m = answered m.0 (stays (Err d) (λ z. number_some d (sym own ∙ z)) (sym own) m.1 m.2)
+      where
+        own : n ≡ number d
+        own = e ∙ ap (λ (z : Answer R S). z.refusal) (sym (h (Err d) p))
 
-  pub both_keeps_yes : {a a' : List ℕ} {x : X} → no ≡ granted → x ≡ step rs ms r m → number x ≡ granted → a' ≡ encode kr rs (after x) →
-      Keeps (both_refusal hall late row message (on_both kr km row message (both_keeps_own (stamp_of row) (stamp_of message))).refusal) (on_both kr km row message (both_keeps_own (stamp_of row) (stamp_of message))) granted a a'
-  both_keeps_yes z e g u = both_kept kr km fr fm both_keeps_own hall late l l' p q found z (sym (ap number e) ∙ g) (u ∙ ap (λ (y : X). encode kr rs (after y)) e)
+-- and one that doesn't
+kept : {R : Type 0} (kr : Kind R) (stamp : Stamp) (x : Noted R) (row : R) {n : ℕ} {act : Act} {post : Result R Refusal → Type 0} {result : Result Bool Refusal} {a s a' : List ℕ} →
+    ((y : Result R Refusal) → post y → noted_of row y ≡ x) → n ≡ x.refusal → act ≡ silent kr stamp x.refusal x.row →
+    Stays kr stamp post a a' result → Acts n act (number_of result) (value_or false result) a s a' s
+kept {R} kr stamp x row {n} {act} {post} {result} {a} {s} {a'} h e f reached = go reached.0 reached.1 reached.2
+  where
+    go : (y : Result R Refusal) → post y → MatchResult y (λ after. (result ≡ Ok false) × (a' ≡ encode kr stamp after)) (λ e. (result ≡ Err e) × (a' ≡ a)) →
+        Acts n act (number_of result) (value_or false result) a s a' s
+    go (Ok after) p m =
+        answered m.0
+        (rests (e ∙ ap (λ (z : Noted R). z.refusal) (sym (h (Ok after) p))) (ap (λ (z : Act). z.sends) f)
+        (m.1 ∙ ap (λ (z : Noted R). encode kr stamp z.row) (h (Ok after) p) ∙ ap (λ (z : Act). z.row) (sym f)))
+    go (Err d) p m = answered m.0 (stays (Err d) (λ z. number_some d (sym own ∙ z)) (sym own) m.1 refl)
+      where
+        own : n ≡ number d
+        own = e ∙ ap (λ (z : Noted R). z.refusal) (sym (h (Err d) p))
 
-module _ {R S : Type 0} (kr : Kind R) (ks : Kind S) (fr : Familiar kr) (X : Type 0) (number : X → ℕ) (after : X → R) (told : X → S) (step : Stamp → R → X) (hall : Stamp) (late : ℕ) {row : List ℕ} {rn no : ℕ} {rs : Stamp} {r : R} (l : length row ≡ block_size) (p : Reads kr row rn rs r) (found : no ≡ row_found hall late row (eqb rn granted)) where
-  abbrev row_sends_own : Stamp → R → Act
-  row_sends_own s r = sending kr ks s (number (step s r)) (after (step s r)) (told (step s r))
+-- a step on a row alone, and on a row and a message: `x` is its own definition
+module _ {R : Type 0} (kr : Kind R) (fr : Familiar kr) (hall : Stamp) (late : ℕ) (row : List ℕ) where
+  -- `own` is what the act's definition makes of the row's body, which may give the row back as the bytes that it was
+  pub row_sent : {S : Type 0} (ks : Kind S) (own : R → Act) (x : R → Answer R S) (nothing : S) {post : Result (Granted R S) Refusal → Type 0} {result : Result Bool Refusal} {a s a' s' : List ℕ} →
+      ((y : Result (Granted R S) Refusal) → post y → answer_of (body_of kr row) nothing y ≡ x (body_of kr row)) →
+      (own (body_of kr row)).refusal ≡ (x (body_of kr row)).refusal → (own (body_of kr row)).sends ≡ true →
+      (row_says kr hall late row ≡ granted → (own (body_of kr row)).row ≡ encode kr (stamp_of row) (x (body_of kr row)).row) →
+      (own (body_of kr row)).sent ≡ encode ks (stamp_of row) (x (body_of kr row)).sent →
+      ((row_says kr hall late row ≡ granted → ⊥) → (number_of result ≡ row_says kr hall late row) × (a' ≡ a) × (s' ≡ s)) →
+      (row_says kr hall late row ≡ granted → Sends kr ks (stamp_of row) post a s a' s' result) →
+      Acts (row_refusal hall late row (on_row kr row own).refusal) (on_row kr row own) (number_of result) (value_or false result) a s a' s'
+  row_sent {S} ks own x nothing {post} {result} {a} {s} {a'} {s'} h n on r t refused reached = go (eqb (row_says kr hall late row) granted) refl
+    where
+      go : (b : Bool) → eqb (row_says kr hall late row) granted ≡ b → Acts (row_refusal hall late row (on_row kr row own).refusal) (on_row kr row own) (number_of result) (value_or false result) a s a' s'
+      go true e =
+          let z : row_says kr hall late row ≡ granted = eqb-true _ _ e in
+          let f : on_row kr row own ≡ own (body_of kr row) = row_own kr fr own hall late row z in
+          sent kr ks (stamp_of row) (x (body_of kr row)) (body_of kr row) nothing h (row_granted kr fr own hall late row z ∙ n) (ap (λ (v : Act). v.sends) f ∙ on) (ap (λ (v : Act). v.row) f ∙ r z) (ap (λ (v : Act). v.sent) f ∙ t) (reached z)
+      go false e =
+          let k : row_says kr hall late row ≡ granted → ⊥ = eqb-false _ _ e in
+          stays result (λ z. k (sym (row_refused kr fr own hall late row k) ∙ z)) ((refused k).0 ∙ sym (row_refused kr fr own hall late row k)) (refused k).1 (refused k).2
 
-  -- refused for the blocks
-  pub row_sends_not : {a s : List ℕ} → (no ≡ granted → ⊥) → Acts (row_refusal hall late row (on_row kr row (row_sends_own (stamp_of row))).refusal) (on_row kr row (row_sends_own (stamp_of row))) no false a s a s
-  row_sends_not h = row_unnamed kr fr row_sends_own hall late l p found h
+  pub row_kept : (x : R → Noted R) {post : Result R Refusal → Type 0} {result : Result Bool Refusal} {a s a' : List ℕ} →
+      ((y : Result R Refusal) → post y → noted_of (body_of kr row) y ≡ x (body_of kr row)) →
+      ((row_says kr hall late row ≡ granted → ⊥) → (number_of result ≡ row_says kr hall late row) × (a' ≡ a)) →
+      (row_says kr hall late row ≡ granted → Stays kr (stamp_of row) post a a' result) →
+      Acts (row_refusal hall late row (on_row kr row (λ r. silent kr (stamp_of row) (x r).refusal (x r).row)).refusal)
+      (on_row kr row (λ r. silent kr (stamp_of row) (x r).refusal (x r).row)) (number_of result) (value_or false result) a s a' s
+  row_kept x {post} {result} {a} {s} {a'} h refused reached = go (eqb (row_says kr hall late row) granted) refl
+    where
+      own : R → Act
+      own r = silent kr (stamp_of row) (x r).refusal (x r).row
 
-  -- refused by the step
-  pub row_sends_no : {a s : List ℕ} {x : X} → no ≡ granted → x ≡ step rs r → (number x ≡ granted → ⊥) → Acts (row_refusal hall late row (on_row kr row (row_sends_own (stamp_of row))).refusal) (on_row kr row (row_sends_own (stamp_of row))) (number x) false a s a s
-  row_sends_no z e h = row_unfit kr fr row_sends_own hall late l p found z (ap number e) h
+      go : (b : Bool) → eqb (row_says kr hall late row) granted ≡ b → Acts (row_refusal hall late row (on_row kr row own).refusal) (on_row kr row own) (number_of result) (value_or false result) a s a' s
+      go true e =
+          let z : row_says kr hall late row ≡ granted = eqb-true _ _ e in
+          kept kr (stamp_of row) (x (body_of kr row)) (body_of kr row) h (row_granted kr fr own hall late row z) (row_own kr fr own hall late row z) (reached z)
+      go false e =
+          let n : row_says kr hall late row ≡ granted → ⊥ = eqb-false _ _ e in
+          stays result (λ z. n (sym (row_refused kr fr own hall late row n) ∙ z)) ((refused n).0 ∙ sym (row_refused kr fr own hall late row n)) (refused n).1 refl
 
-  pub row_sends_yes : {a s a' s' : List ℕ} {x : X} → no ≡ granted → x ≡ step rs r → number x ≡ granted → a' ≡ encode kr rs (after x) → s' ≡ encode ks rs (told x) →
-      Acts (row_refusal hall late row (on_row kr row (row_sends_own (stamp_of row))).refusal) (on_row kr row (row_sends_own (stamp_of row))) granted true a s a' s'
-  row_sends_yes z e g u v = row_done kr fr row_sends_own hall late l p found z (sym (ap number e) ∙ g) refl (u ∙ ap (λ (y : X). encode kr rs (after y)) e) (v ∙ ap (λ (y : X). encode ks rs (told y)) e)
+module _ {R M : Type 0} (kr : Kind R) (km : Kind M) (fr : Familiar kr) (fm : Familiar km) (hall : Stamp) (late : ℕ) (row message : List ℕ) where
+  pub both_sent : {S : Type 0} (ks : Kind S) (x : R → M → Answer R S) (nothing : S) {post : Result (Granted R S) Refusal → Type 0} {result : Result Bool Refusal} {a s a' s' : List ℕ} →
+      ((y : Result (Granted R S) Refusal) → post y → answer_of (body_of kr row) nothing y ≡ x (body_of kr row) (body_of km message)) →
+      ((both_say kr km hall late row message ≡ granted → ⊥) → (number_of result ≡ both_say kr km hall late row message) × (a' ≡ a) × (s' ≡ s)) →
+      (both_say kr km hall late row message ≡ granted → Sends kr ks (stamp_of row) post a s a' s' result) →
+      Acts (both_refusal hall late row message (on_both kr km row message (λ r m. sending kr ks (stamp_of row) (x r m).refusal (x r m).row (x r m).sent)).refusal)
+      (on_both kr km row message (λ r m. sending kr ks (stamp_of row) (x r m).refusal (x r m).row (x r m).sent)) (number_of result) (value_or false result) a s a' s'
+  both_sent {S} ks x nothing {post} {result} {a} {s} {a'} {s'} h refused reached = go (eqb (both_say kr km hall late row message) granted) refl
+    where
+      own : R → M → Act
+      own r m = sending kr ks (stamp_of row) (x r m).refusal (x r m).row (x r m).sent
 
-module _ {R : Type 0} (kr : Kind R) (fr : Familiar kr) (X : Type 0) (number : X → ℕ) (after : X → R) (step : Stamp → R → X) (hall : Stamp) (late : ℕ) {row : List ℕ} {rn no : ℕ} {rs : Stamp} {r : R} (l : length row ≡ block_size) (p : Reads kr row rn rs r) (found : no ≡ row_found hall late row (eqb rn granted)) where
-  abbrev row_keeps_own : Stamp → R → Act
-  row_keeps_own s r = silent kr s (number (step s r)) (after (step s r))
+      go : (b : Bool) → eqb (both_say kr km hall late row message) granted ≡ b → Acts (both_refusal hall late row message (on_both kr km row message own).refusal) (on_both kr km row message own) (number_of result) (value_or false result) a s a' s'
+      go true e =
+          let z : both_say kr km hall late row message ≡ granted = eqb-true _ _ e in
+          let f : on_both kr km row message own ≡ own (body_of kr row) (body_of km message) = both_own kr km fr fm own hall late row message z in
+          sent kr ks (stamp_of row) (x (body_of kr row) (body_of km message)) (body_of kr row) nothing h (both_granted kr km fr fm own hall late row message z) (ap (λ (v : Act). v.sends) f) (ap (λ (v : Act). v.row) f) (ap (λ (v : Act). v.sent) f) (reached z)
+      go false e =
+          let n : both_say kr km hall late row message ≡ granted → ⊥ = eqb-false _ _ e in
+          stays result (λ z. n (sym (both_refused kr km fr fm own hall late row message n) ∙ z)) ((refused n).0 ∙ sym (both_refused kr km fr fm own hall late row message n)) (refused n).1 (refused n).2
 
-  -- refused for the blocks
-  pub row_keeps_not : {a : List ℕ} → (no ≡ granted → ⊥) → Keeps (row_refusal hall late row (on_row kr row (row_keeps_own (stamp_of row))).refusal) (on_row kr row (row_keeps_own (stamp_of row))) no a a
-  row_keeps_not h = row_left_lem kr fr row_keeps_own hall late l p found h
+  pub both_kept : (x : R → M → Noted R) {post : Result R Refusal → Type 0} {result : Result Bool Refusal} {a s a' : List ℕ} →
+      ((y : Result R Refusal) → post y → noted_of (body_of kr row) y ≡ x (body_of kr row) (body_of km message)) →
+      ((both_say kr km hall late row message ≡ granted → ⊥) → (number_of result ≡ both_say kr km hall late row message) × (a' ≡ a)) →
+      (both_say kr km hall late row message ≡ granted → Stays kr (stamp_of row) post a a' result) →
+      Acts (both_refusal hall late row message (on_both kr km row message (λ r m. silent kr (stamp_of row) (x r m).refusal (x r m).row)).refusal)
+      (on_both kr km row message (λ r m. silent kr (stamp_of row) (x r m).refusal (x r m).row)) (number_of result) (value_or false result) a s a' s
+  both_kept x {post} {result} {a} {s} {a'} h refused reached = go (eqb (both_say kr km hall late row message) granted) refl
+    where
+      own : R → M → Act
+      own r m = silent kr (stamp_of row) (x r m).refusal (x r m).row
 
-  -- refused by the step
-  pub row_keeps_no : {a : List ℕ} {x : X} → no ≡ granted → x ≡ step rs r → (number x ≡ granted → ⊥) → Keeps (row_refusal hall late row (on_row kr row (row_keeps_own (stamp_of row))).refusal) (on_row kr row (row_keeps_own (stamp_of row))) (number x) a a
-  row_keeps_no z e h = row_misfit kr fr row_keeps_own hall late l p found z (ap number e) h
-
-  pub row_keeps_yes : {a a' : List ℕ} {x : X} → no ≡ granted → x ≡ step rs r → number x ≡ granted → a' ≡ encode kr rs (after x) →
-      Keeps (row_refusal hall late row (on_row kr row (row_keeps_own (stamp_of row))).refusal) (on_row kr row (row_keeps_own (stamp_of row))) granted a a'
-  row_keeps_yes z e g u = row_kept kr fr row_keeps_own hall late l p found z (sym (ap number e) ∙ g) (u ∙ ap (λ (y : X). encode kr rs (after y)) e)
+      go : (b : Bool) → eqb (both_say kr km hall late row message) granted ≡ b → Acts (both_refusal hall late row message (on_both kr km row message own).refusal) (on_both kr km row message own) (number_of result) (value_or false result) a s a' s
+      go true e =
+          let z : both_say kr km hall late row message ≡ granted = eqb-true _ _ e in
+          kept kr (stamp_of row) (x (body_of kr row) (body_of km message)) (body_of kr row) h (both_granted kr km fr fm own hall late row message z) (both_own kr km fr fm own hall late row message z) (reached z)
+      go false e =
+          let n : both_say kr km hall late row message ≡ granted → ⊥ = eqb-false _ _ e in
+          stays result (λ z. n (sym (both_refused kr km fr fm own hall late row message n) ∙ z)) ((refused n).0 ∙ sym (both_refused kr km fr fm own hall late row message n)) (refused n).1 refl

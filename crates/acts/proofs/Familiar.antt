@@ -5,12 +5,12 @@ use borrow.Author.Tests.{eqb-false}
 use Rattle.below.proofs.Tests.{not_true_false}
 use Rattle.words.specs.Bytes.{byte}
 use Rattle.blocks.specs.Kinds.{Kind, good}
-use Rattle.blocks.proofs.Judged.{Proper}
+use Rattle.blocks.specs.Proper.{Proper}
 use Rattle.blocks.proofs.Theorems.{kind_byte}
-use Rattle.message_blocks.specs.Messages.{propose, one_a, one_b, two_s, two_a, two_b}
-use Rattle.message_blocks.proofs.Propers.{ProposeFits, propose_proper, OneAFits, one_a_proper, OneBFits, one_b_proper, TwoSFits, two_s_proper, TwoAFits, two_a_proper, TwoBFits, two_b_proper}
-use Rattle.row_blocks.specs.Rows.{coordinator, box, rack, reader}
-use Rattle.row_blocks.proofs.Propers.{CoordinatorFits, coordinator_proper, BoxFits, box_proper, RackFits, rack_proper, ReaderFits, reader_proper}
+use Rattle.blocks.specs.Messages.{propose, one_a, one_b, two_s, two_a, two_b}
+use Rattle.blocks.specs.MessagePropers.{ProposeFits, propose_proper, OneAFits, one_a_proper, OneBFits, one_b_proper, TwoSFits, two_s_proper, TwoAFits, two_a_proper, TwoBFits, two_b_proper}
+use Rattle.blocks.specs.Rows.{coordinator, box, rack, reader}
+use Rattle.blocks.specs.RowPropers.{CoordinatorFits, coordinator_proper, BoxFits, box_proper, RackFits, rack_proper, ReaderFits, reader_proper}
 use Rattle.kinds.specs.Known.{good_as, known}
 use Rattle.kinds.proofs.Named.{propose_known, one_a_known, one_b_known, two_s_known, two_a_known, two_b_known, coordinator_known, box_known, rack_known, reader_known}
 use Rattle.acts.specs.Acts.{is_a}

@@ -1,4 +1,5 @@
 pub mod Familiar
+pub mod Read
 pub mod Ways
 pub mod Answered
 pub mod Coded

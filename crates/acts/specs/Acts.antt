@@ -7,8 +7,8 @@ use Rattle.rounds.specs.Rounds.{round_of}
 use Rattle.records.specs.declared.stamp.Stamp.{Stamp}
 use Rattle.words.specs.Bytes.{byte}
 use Rattle.blocks.specs.Kinds.{Kind, encode, decode}
-use Rattle.message_blocks.specs.Messages.{propose, one_a, one_b, two_s, two_a, two_b}
-use Rattle.row_blocks.specs.Rows.{coordinator, box, rack, reader}
+use Rattle.blocks.specs.Messages.{propose, one_a, one_b, two_s, two_a, two_b}
+use Rattle.blocks.specs.Rows.{coordinator, box, rack, reader}
 use Rattle.racks.specs.Steps.{offer_of, prepare_of, fast_of, blank_of}
 use Rattle.boxes.specs.Steps.{join_of, take_page_of, take_reading_of}
 use Rattle.coordinators.specs.Steps.{start_of, hear_of, open_of}

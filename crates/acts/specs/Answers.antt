@@ -14,25 +14,13 @@ pub record Acts (number : ℕ) (act : Act) (refusal : ℕ) (sends : Bool) (row s
   pub kept : row_after ≡ cond (eqb number granted) act.row row
   pub told : sent_after ≡ cond (eqb number granted && act.sends) act.sent sent
 
--- an act that sends nothing and has no buffer for it
-pub record Keeps (number : ℕ) (act : Act) (refusal : ℕ) (row row_after : List ℕ) : Type 0 where
-  pub numbered : refusal ≡ number
-  pub kept : row_after ≡ cond (eqb number granted) act.row row
-
 -- of a row's block and a message's, and of a row's block alone
 abbrev pub ActsOnBoth : Stamp → ℕ → List ℕ → List ℕ → (Stamp → List ℕ → List ℕ → Act) → ℕ → Bool → List ℕ → List ℕ → List ℕ → List ℕ → Type 0
 ActsOnBoth hall late row message act =
     Acts (both_refusal hall late row message (act (stamp_of row) row message).refusal) (act (stamp_of row) row message)
 
-abbrev pub KeepsOnBoth : Stamp → ℕ → List ℕ → List ℕ → (Stamp → List ℕ → List ℕ → Act) → ℕ → List ℕ → List ℕ → Type 0
-KeepsOnBoth hall late row message act =
-    Keeps (both_refusal hall late row message (act (stamp_of row) row message).refusal) (act (stamp_of row) row message)
-
 abbrev pub ActsOnRow : Stamp → ℕ → List ℕ → (Stamp → List ℕ → Act) → ℕ → Bool → List ℕ → List ℕ → List ℕ → List ℕ → Type 0
 ActsOnRow hall late row act = Acts (row_refusal hall late row (act (stamp_of row) row).refusal) (act (stamp_of row) row)
-
-abbrev pub KeepsOnRow : Stamp → ℕ → List ℕ → (Stamp → List ℕ → Act) → ℕ → List ℕ → List ℕ → Type 0
-KeepsOnRow hall late row act = Keeps (row_refusal hall late row (act (stamp_of row) row).refusal) (act (stamp_of row) row)
 
 -- the step of a code and its numbers, of which no act reads agent and message number
 abbrev pub step_of : ℕ → Numbers → Step

@@ -7,17 +7,14 @@
 // bytes, and hand on what they found out of range as `late`, which stands between the two refusals 2.
 #![tactic(auto)]
 
-mod acted;
 mod acts;
-mod box_acts;
-mod coordinator_acts;
+mod code;
 mod named;
 mod numbers;
-mod rack_acts;
-mod reader_acts;
+mod shapes;
 mod step;
 
-pub use acted::Acted;
 pub use acts::act;
+pub use code::Code;
 pub use numbers::Numbers;
 pub use step::Step;

@@ -1,76 +1,101 @@
 // The blocks that a step names, and the refusals that come of them before the step itself is looked at:
 // 2, what the caller found out of range, 2, 3 and 5.
 //
-// Each act has read its blocks as the kinds that it names and says whether they were good so: `right`.
-// Only a block that was not is looked at again, for the difference between a bad one and one of
-// another kind.
-ghost use Rattle.std.specs.Prelude.{◌≡◌, ◌||◌, length};
+// Each block is read as the kind that the step names. Only one that is not good so is looked at again,
+// for the difference between a bad block and one of another kind.
+ghost use Rattle.std.specs.Prelude.{◌≡◌, ◌||◌, length, IfOk};
+ghost use Rattle.below.specs.Refusals.{unless, bad_block, number_of};
 ghost use Rattle.blocks.specs.Frame.{block_size};
+ghost use Rattle.blocks.specs.Kinds.{good};
 ghost use Rattle.kinds.specs.Known.{known};
 ghost use Rattle.acts.specs.Named.{same_hall, own_row, row_found, both_found};
+ghost use Rattle.acts.specs.Shapes.{held_by};
 
-use below::{GRANTED, WRONG_MESSAGE, both, unless};
-use blocks::read_stamp;
+use below::Refusal;
+use blocks::{Body, Stamped, read, read_stamp};
 use kinds::kind_of;
 use records::Stamp;
 
-const BAD_BLOCK: u8 = 2;
+// A row's block and a message's, any block of the post where the step names none; whose they must be,
+// and what the caller found out of range.
+#[derive(Clone, Copy)]
+pub(crate) struct Named<'a> {
+    pub hall: Stamp,
+    pub late: Result<(), Refusal>,
+    pub row: &'a [u8],
+    pub message: &'a [u8],
+    ghost row_whole: { length row.now ≡ block_size },
+    ghost message_whole: { length message.now ≡ block_size },
+}
 
-const OTHER_HALL: u8 = 3;
-
+// Whether a block is good: as what the step names, or of another kind.
 fn good_block(block: &[u8], right: bool) -> bool
     requires { length block.now ≡ block_size }
     ensures { result ≡ right || known block.now }
 {
-    if right {
-        true
-    } else {
-        kind_of(block).refusal == 0
-    }
+    right || kind_of(block).is_ok()
 }
 
 fn same_hall(hall: Stamp, stamp: Stamp) -> bool
     ensures { result ≡ same_hall hall stamp }
 {
-    both(
-        hall.setup.same(stamp.setup),
-        hall.instance.0 == stamp.instance.0,
-    )
+    hall.setup == stamp.setup && hall.instance == stamp.instance
 }
 
 fn own_row(hall: Stamp, stamp: Stamp) -> bool
     ensures { result ≡ own_row hall stamp }
 {
-    both(same_hall(hall, stamp), stamp.agent == hall.agent)
+    same_hall(hall, stamp) && stamp.agent == hall.agent
 }
 
-// A step that names a row alone.
-pub(crate) fn named_row(hall: Stamp, late: u8, row: &[u8], right: bool) -> u8
-    requires { length row.now ≡ block_size }
-    ensures { result ≡ row_found hall late row.now right }
-{
-    let kind = unless(right, WRONG_MESSAGE, GRANTED);
-    let place = unless(own_row(hall, read_stamp(row)), OTHER_HALL, kind);
-    let range = unless(late == GRANTED, late, place);
-    unless(good_block(row, right), BAD_BLOCK, range)
-}
+impl Named<'_> {
+    // What comes before all else: the row is bad, or what the caller found; `right` where the row is
+    // good as the step names it.
+    fn good_row(&self, right: bool) -> Result<(), Refusal>
+        ensures { number_of result ≡ unless (right || known self.now.row.now) bad_block (number_of self.now.late) }
+    {
+        Refusal::BadBlock.unless(good_block(self.row, right))?;
+        self.late
+    }
 
-// A step that names a row and a message.
-pub(crate) fn named_both(
-    hall: Stamp,
-    late: u8,
-    row: &[u8],
-    right: bool,
-    message: &[u8],
-    meant: bool,
-) -> u8
-    requires { (length row.now ≡ block_size) × (length message.now ≡ block_size) }
-    ensures { result ≡ both_found hall late row.now right message.now meant }
-{
-    let kind = unless(both(right, meant), WRONG_MESSAGE, GRANTED);
-    let sender = unless(same_hall(hall, read_stamp(message)), OTHER_HALL, kind);
-    let place = unless(own_row(hall, read_stamp(row)), OTHER_HALL, sender);
-    let heard = unless(good_block(message, meant), BAD_BLOCK, place);
-    let range = unless(late == GRANTED, late, heard);
-    unless(good_block(row, right), BAD_BLOCK, range)
+    // The refusals of a step that names a row alone.
+    fn row_found(&self, right: bool) -> Result<(), Refusal>
+        ensures { number_of result ≡ row_found self.now.hall (number_of self.now.late) self.now.row.now right }
+    {
+        self.good_row(right)?;
+        Refusal::OtherHall.unless(own_row(self.hall, read_stamp(self.row)))?;
+        Refusal::WrongMessage.unless(right)
+    }
+
+    // The same of a step that names a row and a message.
+    fn both_found(&self, right: bool, meant: bool) -> Result<(), Refusal>
+        ensures { number_of result ≡ both_found self.now.hall (number_of self.now.late) self.now.row.now right self.now.message.now meant }
+    {
+        self.good_row(right)?;
+        Refusal::BadBlock.unless(good_block(self.message, meant))?;
+        Refusal::OtherHall.unless(own_row(self.hall, read_stamp(self.row)))?;
+        Refusal::OtherHall.unless(same_hall(self.hall, read_stamp(self.message)))?;
+        Refusal::WrongMessage.unless(right && meant)
+    }
+
+    #[tactic(auto, using(crate::proofs::Read::good_read))]
+    pub(crate) fn own<R: Body>(&self) -> Result<Stamped<R>, Refusal>
+        ensures number { number_of result ≡ row_found self.now.hall (number_of self.now.late) self.now.row.now (good R.kind self.now.row.now) }
+        ensures held { IfOk result (λ own. own ≡ held_by R.kind self.now.row.now) }
+    {
+        let own = read::<R>(self.row);
+        self.row_found(own.is_ok())?;
+        own
+    }
+
+    #[tactic(auto, using(crate::proofs::Read::good_read))]
+    pub(crate) fn both<R: Body, M: Body>(&self) -> Result<(Stamped<R>, Stamped<M>), Refusal>
+        ensures number { number_of result ≡ both_found self.now.hall (number_of self.now.late) self.now.row.now (good R.kind self.now.row.now) self.now.message.now (good M.kind self.now.message.now) }
+        ensures held { IfOk result (λ read. (read.0 ≡ held_by R.kind self.now.row.now) × (read.1 ≡ held_by M.kind self.now.message.now)) }
+    {
+        let own = read::<R>(self.row);
+        let heard = read::<M>(self.message);
+        self.both_found(own.is_ok(), heard.is_ok())?;
+        Ok((own?, heard?))
+    }
 }

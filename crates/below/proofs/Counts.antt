@@ -1,5 +1,5 @@
 -- Laws of `count`, and that two sets of boxes which together count more than there are share one.
-use Rattle.std.proofs.Common.{ℕ, zero, suc, ◌+◌, ◌≤◌, ◌<◌, arith, le_antisymm, add-one, ◌≡◌, refl, ap, subst, ◌∙◌, Bool, true, false, cond, ⊎_elim}
+use Rattle.std.proofs.Common.{ℕ, zero, suc, ◌+◌, ◌≤◌, ◌<◌, arith, ◌≡◌, refl, ap, subst, ◌∙◌, Bool, true, false, cond, ⊎_elim}
 use Rattle.std.proofs.Math.Decide.{dec_lt}
 use Rattle.below.specs.Below.{count}
 use Rattle.below.proofs.Tests.{decided, found_up, not_true_false}
@@ -74,26 +74,3 @@ count_cut (suc n) A f l h = go (λ m. count_cut n A f m (λ k j. h k (omega arit
       where
         plus_none : (x : ℕ) → x + 0 ≡ x
         plus_none x = omega arith
-
--- The loop that counts: its invariant is `(k ≤ n) × (total ≡ count k f)`.
-pub count_start : (f : ℕ → Bool) → 0 ≡ count 0 f
-unfolding count
-count_start f = refl
-
-pub count_hit : {k t : ℕ} (f : ℕ → Bool) → t ≡ count k f → f k ≡ true → t + 1 ≡ count (k + 1) f
-unfolding count
-count_hit {k} f p q = rw (p, add-one k, q)
-
-pub count_miss : {k t : ℕ} (f : ℕ → Bool) → t ≡ count k f → f k ≡ false → t ≡ count (k + 1) f
-unfolding count
-count_miss {k} f p q = rw (p, add-one k, q) (omega arith)
-
--- the turn that adds one where the test passes
-pub count_add : {k t x : ℕ} {r : Bool} (f : ℕ → Bool) → t ≡ count k f → r ≡ f k → x ≡ cond r 1 0 → t + x ≡ count (k + 1) f
-unfolding count
-count_add {k} f p e q = rw (q, p, add-one k, e)
-
-pub count_ends : (n k t : ℕ) (f : ℕ → Bool) → t ≡ count k f → k ≤ n → n ≤ k → t ≡ count n f
-count_ends n k t f h a b = subst (λ (m : ℕ). t ≡ count m f) (le_antisymm a b) h
-
-pub ruleset count-loop = (count_start, count_hit, count_miss, count_ends)

@@ -1,5 +1,5 @@
--- Laws of refusals: what a granted answer says of the conditions, and the two ways through a step's code.
-use Rattle.std.proofs.Common.{ℕ, ◌<◌, arith, eqb, eqb-true, eq-eqb, ne_eqb, ◌≡◌, refl, sym, subst, ◌∙◌, Bool, true, false, cond}
+-- Laws of refusals: what a granted answer says of the conditions, and which answer a step gives.
+use Rattle.std.proofs.Common.{ℕ, ◌<◌, arith, eqb, eqb-true, eq-eqb, ne_eqb, ◌≡◌, refl, sym, ◌∙◌, Bool, true, false, cond}
 use Rattle.below.specs.Refusals.{unless, granted}
 
 -- granted: the condition held, and so did those after it
@@ -27,12 +27,4 @@ module _ {A : Type 0} where
       go : (b : Bool) → eqb number granted ≡ b → number_of (cond b done kept) ≡ number
       go true e = p ∙ sym (eqb-true number granted e)
       go false e = q
-
-  -- the ways through a step: `number` is what the code found, `right` what the definition says
-  pub way_granted : {number right : ℕ} {z done : A} (kept : A) → number ≡ right → number ≡ granted → z ≡ done → z ≡ cond (eqb right granted) done kept
-  way_granted {number} {right} kept e h d = d ∙ sym (answer_granted right _ kept (sym e ∙ h))
-
-  pub way_refused : {number right : ℕ} {z : A} (done : A) (kept : ℕ → A) → number ≡ right → (number ≡ granted → ⊥) → z ≡ kept number →
-      z ≡ cond (eqb right granted) done (kept right)
-  way_refused {number} {right} {z} done kept e h d =
-      subst (λ (x : ℕ). z ≡ kept x) e d ∙ sym (answer_refused right done (kept right) (λ g. h (e ∙ g)))
+      -- the ways through a step: `number` is what the code found, `right` what the definition says

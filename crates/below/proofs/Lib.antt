@@ -1,6 +1,9 @@
 pub mod Tests
 pub mod Rows
+pub mod Runs
 pub mod Counts
+pub mod Tallies
 pub mod Unique
-pub mod Joins
+pub mod Answers
 pub mod Granted
+pub mod Refused

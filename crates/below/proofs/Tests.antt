@@ -1,8 +1,7 @@
--- Laws of `all` and `any`, and the rulesets that close the loops which compute them.
-use Rattle.std.proofs.Common.{ℕ, zero, suc, ◌+◌, ◌≤◌, ◌<◌, add-one, arith, le_antisymm, ◌≡◌, refl, sym, subst, ◌∙◌, Bool, true, false, cond, not, ◌&&◌, ◌||◌, true≢false, ◌⊎◌, inl, inr, ⊎_elim}
+-- Laws of `all` and `any`, and of the loop that computes `any`.
+use Rattle.std.proofs.Common.{ℕ, zero, suc, ◌<◌, arith, ◌≡◌, refl, sym, subst, ◌∙◌, Bool, true, false, cond, ◌&&◌, ◌||◌, true≢false, ◌⊎◌, inl, inr, ⊎_elim}
 use Rattle.std.proofs.Math.Bool.{false≢true}
 use Rattle.std.proofs.Math.Decide.{ℕ_discrete}
-use borrow.Author.Tests.{not-true, not-false}
 use Rattle.below.specs.Below.{all, any}
 
 -- `&&` and `||` by the values of their parts
@@ -39,17 +38,8 @@ or_cases true b h = inl refl
 or_cases false b h = inr h
 
 -- what a branch on a test that stands for `a` picks
-pub or_yes : {r a : Bool} (b : Bool) → r ≡ a → r ≡ true → true ≡ a || b
-or_yes b e h = rw (← e, h)
-
-pub or_no : {r a b s : Bool} → r ≡ a → r ≡ false → s ≡ b → s ≡ a || b
-or_no e h d = rw (← e, h) d
-
 pub and_yes : {r a b s : Bool} → r ≡ a → r ≡ true → s ≡ b → s ≡ a && b
 and_yes e h d = rw (← e, h) d
-
-pub and_no : {r a : Bool} (b : Bool) → r ≡ a → r ≡ false → false ≡ a && b
-and_no b e h = rw (← e, h)
 
 pub pick_yes {ℓ} : {A : Type ℓ} {r b : Bool} {x z : A} (y : A) → r ≡ b → r ≡ true → z ≡ x → z ≡ cond b x y
 pick_yes y e h d = rw (← e, h) d
@@ -139,38 +129,7 @@ unfolding any
 any_same zero f g h = refl
 any_same (suc n) f g h = rw (any_same n f g (λ k l. h k (omega arith)), h n (omega arith))
 
--- The loop that computes `all n f`, left at the first number that fails: its invariant is `(k ≤ n) × (all k f ≡ true)`.
--- The turn calls the test, whose answer r is f k, and leaves where `!r`.
-pub all_start : (f : ℕ → Bool) → all 0 f ≡ true
-unfolding all
-all_start f = refl
-
-pub all_more : {k : ℕ} {r : Bool} (f : ℕ → Bool) → all k f ≡ true → r ≡ f k → not r ≡ false → all (k + 1) f ≡ true
-unfolding all
-all_more {k} {r} f p e q = rw add-one (and_true p (sym e ∙ not-false r q))
-
-pub all_left : {k : ℕ} {r : Bool} (n : ℕ) (f : ℕ → Bool) → k < n → r ≡ f k → not r ≡ true → false ≡ all n f
-all_left {k} {r} n f l e h = sym (not_true_false (all n f) (λ a. true≢false (sym (all_at n f a k l) ∙ sym e ∙ not-true r h)))
-
-pub all_ends : {k : ℕ} (n : ℕ) (f : ℕ → Bool) → all k f ≡ true → k ≤ n → n ≤ k → true ≡ all n f
-all_ends n f h a b = subst (λ (m : ℕ). true ≡ all m f) (le_antisymm a b) (sym h)
-
-pub ruleset all-loop = (all_start, all_more, all_left, all_ends)
-
--- The loop that computes `any n f`, left at the first number that passes: its invariant is `(k ≤ n) × (any k f ≡ false)`.
--- The turn calls the test, whose answer r is f k, and leaves where r.
+-- where nothing was looked at
 pub any_start : (f : ℕ → Bool) → any 0 f ≡ false
 unfolding any
 any_start f = refl
-
-pub any_more : {k : ℕ} {r : Bool} (f : ℕ → Bool) → any k f ≡ false → r ≡ f k → r ≡ false → any (k + 1) f ≡ false
-unfolding any
-any_more {k} f p e q = rw add-one (or_false p (sym e ∙ q))
-
-pub any_left : {k : ℕ} {r : Bool} (n : ℕ) (f : ℕ → Bool) → k < n → r ≡ f k → r ≡ true → true ≡ any n f
-any_left {k} n f l e h = sym (any_true n f k l (sym e ∙ h))
-
-pub any_ends : {k : ℕ} (n : ℕ) (f : ℕ → Bool) → any k f ≡ false → k ≤ n → n ≤ k → false ≡ any n f
-any_ends n f h a b = subst (λ (m : ℕ). false ≡ any m f) (le_antisymm a b) (sym h)
-
-pub ruleset any-loop = (any_start, any_more, any_left, any_ends)

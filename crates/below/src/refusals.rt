@@ -1,23 +1,57 @@
-// The refusals that the steps on records give, by document 01's numbers, and how they follow each
-// other: each is given exactly when its condition holds and none before it.
-ghost use Rattle.std.specs.Prelude.{◌≡◌};
-ghost use Rattle.below.specs.Refusals.{unless};
+// The refusals, by document 01's numbers, and how they follow each other: each is given exactly when
+// its condition holds and none before it.
+ghost use Rattle.std.specs.Prelude.{◌≡◌, cond};
+ghost use Rattle.below.specs.Refusals.{number, number_of};
 
-pub const GRANTED: u8 = 0;
+#[derive(Clone, Copy, Debug, PartialEq, Eq)]
+pub enum Refusal {
+    WrongLength,
+    BadBlock,
+    OtherHall,
+    NoSuchStep,
+    WrongMessage,
+    WrongRound,
+    AlreadyDone,
+    NoMajority,
+    LinesClash,
+    PostFull,
+    OutOfRange,
+}
 
-pub const WRONG_MESSAGE: u8 = 5;
+impl Refusal {
+    // Document 01's number.
+    pub fn number(self) -> u8
+        ensures { result ≡ number self }
+    {
+        match self {
+            Refusal::WrongLength => 1,
+            Refusal::BadBlock => 2,
+            Refusal::OtherHall => 3,
+            Refusal::NoSuchStep => 4,
+            Refusal::WrongMessage => 5,
+            Refusal::WrongRound => 6,
+            Refusal::AlreadyDone => 7,
+            Refusal::NoMajority => 8,
+            Refusal::LinesClash => 9,
+            Refusal::PostFull => 10,
+            Refusal::OutOfRange => 11,
+        }
+    }
 
-pub const WRONG_ROUND: u8 = 6;
+    // This refusal where the condition fails, and on to what follows where it holds.
+    pub fn unless(self, holds: bool) -> Result<(), Refusal>
+        ensures { result ≡ cond holds (Ok tt) (Err self) }
+    {
+        if holds { Ok(()) } else { Err(self) }
+    }
+}
 
-pub const ALREADY_DONE: u8 = 7;
-
-pub const NO_MAJORITY: u8 = 8;
-
-pub const LINES_CLASH: u8 = 9;
-
-// The refusals after this one where its condition holds, else its number.
-pub fn unless(holds: bool, number: u8, later: u8) -> u8
-    ensures { result ≡ unless holds number later }
+// Document 01's number of an answer: 0 where it is granted.
+pub fn number_of(answer: Result<(), Refusal>) -> u32
+    ensures { result ≡ number_of answer }
 {
-    if holds { later } else { number }
+    match answer {
+        Ok(()) => 0,
+        Err(refusal) => u32::from(refusal.number()),
+    }
 }

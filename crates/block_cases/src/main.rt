@@ -28,8 +28,10 @@ pub struct Block {
 }
 
 fn tell(rt: &impl Print, block: &[u8]) -> io::Result<()> {
-    let read = kinds::kind_of(block);
-    println!(rt; "{} {}", read.refusal, read.kind)
+    match kinds::kind_of(block) {
+        Ok(kind) => println!(rt; "0 {}", kind.number()),
+        Err(refusal) => println!(rt; "{} 0", refusal.number()),
+    }
 }
 
 // The check words of what the block holds now.

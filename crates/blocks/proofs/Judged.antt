@@ -1,5 +1,5 @@
 -- Once over the generic kind: the length and the bytes of an encoding, both round trips, and what makes a block good.
-use Rattle.std.proofs.Common.{ℕ, ◌+◌, ◌-◌, ◌≤◌, ◌<◌, arith, zero-add, eqb, length, length-append, ◌≡◌, refl, sym, ap, subst, ◌∙◌, Bool, true, ◌&&◌, List, [], ◌++◌, eqb-true, eq-eqb}
+use Rattle.std.proofs.Common.{ℕ, ◌+◌, ◌-◌, ◌<◌, arith, zero-add, eqb, length, length-append, ◌≡◌, refl, sym, ap, subst, ◌∙◌, Bool, true, ◌&&◌, List, [], ◌++◌, eqb-true, eq-eqb}
 use Rattle.below.proofs.Tests.{all_at, all_true, same_yes, and_true, and_left, and_right}
 use Rattle.records.specs.declared.stamp.Stamp.{Stamp}
 use Rattle.words.specs.Bytes.{byte, Small, number4, bytes4, zero_at}
@@ -8,6 +8,7 @@ use Rattle.fields.proofs.Cuts.{cut, length_cut, cut_parts, cut_all, cut_byte, cu
 use Rattle.fields.proofs.Lawful.{Lawful, four_lawful, small_join}
 use Rattle.blocks.specs.Frame.{block_size, words_end, body_at, framed, checks}
 use Rattle.blocks.specs.Kinds.{Kind, content, encode, decode, kept, same, good}
+use Rattle.blocks.specs.Proper.{Proper}
 use Rattle.blocks.proofs.Framing.{StampFits, content_lawful, first_agrees, second_agrees}
 use Rattle.words.proofs.Summed.{first_small, second_small}
 
@@ -26,12 +27,6 @@ is_same a b e = subst (λ (x : List ℕ). same a x ≡ true) e (and_true (eq-eqb
 pub block_parts : (bytes : List ℕ) → length bytes ≡ block_size → bytes ≡ cut words_end bytes 0 ++ (cut 4 bytes words_end ++ cut 4 bytes (words_end + 4))
 block_parts bytes h =
     sym (cut_all bytes) ∙ ap (λ (n : ℕ). cut n bytes 0) h ∙ cut_parts words_end 8 bytes 0 ∙ ap (λ (l : List ℕ). cut words_end bytes 0 ++ l) (cut_parts 4 4 bytes words_end)
-
--- what a kind has to show: its number is a byte, its body has room, and its codec is lawful for the values that fit
-pub record Proper {A : Type 0} (k : Kind A) (P : A → Type 0) : Type 0 where
-  pub number_small : k.number < 256
-  pub room : body_at + k.body.size ≤ words_end
-  pub lawful : Lawful k.body P
 
 module _ {A : Type 0} (k : Kind A) (P : A → Type 0) (proper : Proper k P) where
   whole : Lawful (content k) (λ v. StampFits v.0 × P v.1)

@@ -8,7 +8,8 @@ use Rattle.words.specs.Bytes.{Small}
 use Rattle.blocks.specs.Frame.{block_size}
 use Rattle.blocks.specs.Kinds.{Kind, encode, decode, kept, good}
 use Rattle.blocks.proofs.Framing.{StampFits}
-use Rattle.blocks.proofs.Judged.{Proper, encode-length, encode_small, decode-encode, encode-decode, encode-good, good_kept}
+use Rattle.blocks.specs.Proper.{Proper}
+use Rattle.blocks.proofs.Judged.{encode-length, encode_small, decode-encode, encode-decode, encode-good, good_kept}
 use Rattle.blocks.proofs.Ranges.{SetupFits, setup_fits, stamp_setup, stamp_fits}
 use Rattle.blocks.proofs.Theorems.{Sound, good_sound, good_from}
 

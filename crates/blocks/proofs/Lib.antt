@@ -4,4 +4,6 @@ pub mod Answered
 pub mod Theorems
 pub mod Ranges
 pub mod Kept
+pub mod MessageKinds
+pub mod RowKinds
 pub mod Unique

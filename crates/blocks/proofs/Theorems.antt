@@ -10,7 +10,8 @@ use Rattle.blocks.specs.Frame.{words_end, body_at, framed}
 use Rattle.blocks.specs.Kinds.{Kind, encode, kept, good}
 use Rattle.blocks.specs.Answers.{Reads, Writes}
 use Rattle.blocks.proofs.Framing.{StampFits}
-use Rattle.blocks.proofs.Judged.{Proper, encode-decode, encode-good, good_length, same_framed}
+use Rattle.blocks.specs.Proper.{Proper}
+use Rattle.blocks.proofs.Judged.{encode-decode, encode-good, good_length, same_framed}
 
 -- (c) a good block's third byte is its kind's number, so no block is good for two kinds
 pub kind_byte : {A : Type 0} (k : Kind A) (P : A → Type 0) (proper : Proper k P) (bytes : List ℕ) → good k bytes ≡ true → byte bytes 2 ≡ k.number

@@ -1,5 +1,7 @@
 -- What the reader and the writer of a kind answer.
-use Rattle.std.specs.Prelude.{ℕ, eqb, length, ◌≡◌, Bool, cond, ◌&&◌, List, []}
+use Rattle.std.specs.Prelude.{ℕ, eqb, length, ◌≡◌, Bool, cond, ◌&&◌, List, [], Result, Ok, Err}
+use Rattle.below.specs.declared.refusals.Refusal.{Refusal}
+use Rattle.blocks.specs.declared.body.Stamped.{Stamped}
 use Rattle.records.specs.declared.stamp.Stamp.{Stamp}
 use Rattle.blocks.specs.Frame.{block_size}
 use Rattle.blocks.specs.Kinds.{Kind, encode, decode, kept, good}
@@ -18,3 +20,12 @@ pub record Reads {A : Type 0} (k : Kind A) (bytes : List ℕ) (refusal : ℕ) (s
 pub record Writes {A : Type 0} (k : Kind A) (stamp : Stamp) (body : A) (old after : List ℕ) (refusal : ℕ) : Type 0 where
   pub refused : refusal ≡ answer old (kept k stamp body)
   pub written : after ≡ cond (eqb (length old) block_size && kept k stamp body) (encode k stamp body) old
+
+-- what a reader's answer holds; a refused one, the record of no bytes
+abbrev pub stamp_in : {A : Type 0} → Kind A → Result (Stamped A) Refusal → Stamp
+stamp_in k (Ok s) = s.stamp
+stamp_in k (Err e) = (decode k []).0
+
+abbrev pub body_in : {A : Type 0} → Kind A → Result (Stamped A) Refusal → A
+body_in k (Ok s) = s.body
+body_in k (Err e) = (decode k []).1

@@ -1,3 +1,9 @@
 pub mod Frame
 pub mod Kinds
+pub mod Numbers
+pub mod Proper
 pub mod Answers
+pub mod Messages
+pub mod MessagePropers
+pub mod Rows
+pub mod RowPropers

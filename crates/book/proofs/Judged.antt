@@ -1,10 +1,9 @@
 -- The refusals before the list: the loop over all blocks, the ways through the code, and what blocks are that are not refused.
-use Rattle.std.proofs.Common.{ℕ, ◌+◌, ◌%◌, ◌≤◌, ◌<◌, arith, le_antisymm, eqb, leb, length, eqb-true, leb-true, ◌≡◌, refl, subst, ◌∙◌, Bool, true, false, not, ◌&&◌, List}
+use Rattle.std.proofs.Common.{ℕ, ◌+◌, ◌%◌, ◌≤◌, ◌<◌, arith, eqb, leb, length, eqb-true, leb-true, ◌≡◌, refl, subst, Bool, true, false, ◌&&◌, List}
 use Rattle.std.proofs.Math.Decide.{ℕ_discrete}
-use borrow.Author.Tests.{not-true, not-false}
 use Rattle.below.specs.Below.{all}
 use Rattle.below.specs.Refusals.{unless, granted}
-use Rattle.below.proofs.Tests.{pick_yes, pick_no, and_left, and_right, all_at}
+use Rattle.below.proofs.Tests.{and_left, and_right, all_at}
 use Rattle.pages.specs.Racks.{most_racks}
 use Rattle.records.specs.Rules.{stamp_rules}
 use Rattle.words.specs.Bytes.{byte}
@@ -13,8 +12,8 @@ use Rattle.blocks.specs.Frame.{block_size}
 use Rattle.blocks.specs.Kinds.{decode, good}
 use Rattle.blocks.proofs.Judged.{good_kept}
 use Rattle.blocks.proofs.Ranges.{stamp_setup, setup_fits}
-use Rattle.row_blocks.proofs.Propers.{ReaderFits, reader_proper}
-use Rattle.row_blocks.specs.Rows.{reader}
+use Rattle.blocks.specs.RowPropers.{ReaderFits, reader_proper}
+use Rattle.blocks.specs.Rows.{reader}
 use Rattle.kinds.specs.Known.{good_as}
 use Rattle.book.specs.Book.{most_blocks, count_of, block_at, is_whole, is_good, is_in_place, is_reader, Judges, racks_of, blocks_refusal}
 use Rattle.book.proofs.Places.{racks_none}
@@ -23,28 +22,14 @@ use Rattle.book.proofs.Places.{racks_none}
 pub judges_start : (blocks : List ℕ) → Judges blocks 0 true true true
 judges_start blocks = record { goods = exact_start _; places = exact_start _; kinds = exact_start _ }
 
-pub judges_more : (blocks : List ℕ) (k : ℕ) {g p r x y z g' p' r' : Bool} → Judges blocks k g p r → x ≡ is_good blocks k → g' ≡ g && x → y ≡ is_in_place blocks k → p' ≡ p && y →
-    z ≡ is_reader blocks k → r' ≡ r && z → Judges blocks (k + 1) g' p' r'
-judges_more blocks k j ex eg ey ep ez er =
+pub judges_more : (blocks : List ℕ) (k : ℕ) {g p r x y z : Bool} → Judges blocks k g p r → x ≡ is_good blocks k → y ≡ is_in_place blocks k → z ≡ is_reader blocks k →
+    Judges blocks (k + 1) (g && x) (p && y) (r && z)
+judges_more blocks k j ex ey ez =
     record {
-      goods = exact_more (is_good blocks) k j.goods ex eg;
-      places = exact_more (is_in_place blocks) k j.places ey ep;
-      kinds = exact_more (is_reader blocks) k j.kinds ez er;
+      goods = exact_more (is_good blocks) k j.goods ex refl;
+      places = exact_more (is_in_place blocks) k j.places ey refl;
+      kinds = exact_more (is_reader blocks) k j.kinds ez refl;
     }
-
-pub judges_end : (blocks : List ℕ) (n k : ℕ) {g p r : Bool} → k ≤ n → n ≤ k → Judges blocks k g p r → Judges blocks n g p r
-judges_end blocks n k {g} {p} {r} a b j = subst (λ (m : ℕ). Judges blocks m g p r) (le_antisymm a b) j
-
--- the ways through the refusals
-module _ (blocks : List ℕ) {w : Bool} (whole : w ≡ is_whole blocks) where
-  pub not_whole : not w ≡ true → 1 ≡ blocks_refusal blocks granted
-  unfolding blocks_refusal
-  not_whole h = pick_no _ whole (not-true w h) refl
-
-  pub all_judged : {g p r : Bool} {kinds places z : ℕ} → not w ≡ false → Judges blocks (count_of blocks) g p r → kinds ≡ unless r 5 granted → places ≡ unless p 3 kinds → z ≡ unless g 2 places →
-      z ≡ blocks_refusal blocks granted
-  unfolding blocks_refusal
-  all_judged h j ek ep ez = pick_yes _ whole (not-false w h) (ez ∙ rw (j.goods, ep, j.places, ek, j.kinds))
 
 -- four conditions by their values: where none refuses, all hold, and what comes after them decides
 abbrev chain : Bool → Bool → Bool → Bool → ℕ → ℕ

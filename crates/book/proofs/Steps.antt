@@ -1,6 +1,5 @@
 -- The walk's code: the line that it reads, one more entry, and the list copied to the lent row.
-use Rattle.std.proofs.Common.{ℕ, suc, ◌+◌, ◌*◌, ◌≤◌, ◌<◌, le_antisymm, zero-add, add-one, arith, length, get_or, take, drop, set, length-set, take-suc-set, ◌≡◌, refl, sym, ap, subst, ◌∙◌, Bool, true, false, ◌||◌, List, ◌++◌}
-use Rattle.std.proofs.Math.Seq.{paste-suc}
+use Rattle.std.proofs.Common.{ℕ, ◌+◌, ◌*◌, ◌≤◌, ◌<◌, le_antisymm, add-one, arith, length, take, set, take-suc-set, ◌≡◌, refl, sym, ap, subst, ◌∙◌, Bool, true, false, ◌||◌, List}
 use Rattle.below.specs.Below.{any}
 use Rattle.below.proofs.Tests.{pick_yes, pick_no}
 use Rattle.below.proofs.Rows.{row_at}
@@ -12,7 +11,7 @@ use Rattle.pages.specs.Pages.{line, at}
 use Rattle.fields.specs.Codecs.{Got}
 use Rattle.fields.specs.Layout.{line_as}
 use Rattle.blocks.specs.Kinds.{decode}
-use Rattle.row_blocks.specs.Rows.{reader}
+use Rattle.blocks.specs.Rows.{reader}
 use Rattle.book.specs.Lists.{listed, entered, Entered}
 use Rattle.book.specs.Book.{block_at, page_at}
 
@@ -23,17 +22,6 @@ unfolding at
 line_of_page blocks instance rack {block} l e g =
     ap (λ (x : Line). x.mark) g.is ∙ sym (ap (λ (x : Line). x.mark) (row_at most_racks (λ k. line_as.get block (10 + 5 * k)) rack (line Absent) l)) ∙
     ap (λ (b : List ℕ). at (decode reader b).1.page rack) e
-
--- the loop that copies
-pub copy_more : (from old list : List ℕ) (k : ℕ) {count : ℕ} → count ≤ length from → count ≤ length old → k < count → length list ≡ length old → list ≡ take k from ++ drop k old →
-    (k + 1 ≤ count) × ((length (set list k (get_or from k 0)) ≡ length old) × (set list k (get_or from k 0) ≡ take (k + 1) from ++ drop (k + 1) old))
-copy_more from old list k f o l long h = (omega arith, (length-set list k (get_or from k 0) ∙ long, ap (λ (t : List ℕ). set t k (get_or from k 0)) h ∙ rw add-one next))
-  where
-    next : set (take k from ++ drop k old) k (get_or from k 0) ≡ take (suc k) from ++ drop (suc k) old
-    next = simp zero-add at (paste-suc old 0 from k 0 (omega arith) (omega arith))
-
-pub copy_ends : (from old list : List ℕ) (count k : ℕ) → k ≤ count → count ≤ k → list ≡ take k from ++ drop k old → list ≡ take count from ++ drop count old
-copy_ends from old list count k a b h = h ∙ ap (λ (n : ℕ). take n from ++ drop n old) (le_antisymm a b)
 
 -- the loop that looks for a number, to the end of the list
 pub any_next : (k : ℕ) {found r : Bool} (f : ℕ → Bool) → found ≡ any k f → r ≡ found || f k → r ≡ any (k + 1) f

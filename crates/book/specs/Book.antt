@@ -8,7 +8,7 @@ use Rattle.records.specs.declared.stamp.Stamp.{Stamp}
 use Rattle.words.specs.Bytes.{byte}
 use Rattle.blocks.specs.Frame.{block_size, stamp_as}
 use Rattle.blocks.specs.Kinds.{decode}
-use Rattle.row_blocks.specs.Rows.{reader}
+use Rattle.blocks.specs.Rows.{reader}
 use Rattle.kinds.specs.Known.{known}
 use Rattle.book.specs.Lists.{list_of}
 

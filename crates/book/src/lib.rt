@@ -9,41 +9,23 @@
 mod judging;
 mod walking;
 
+ghost use Rattle.below.specs.Refusals.{number_of, value_or};
 ghost use Rattle.book.specs.Book.{Books};
 
 use crate::judging::{racks_of, refusal_of};
-use crate::walking::{LONGEST, copy, walk};
-use below::GRANTED;
+use crate::walking::{LONGEST, walk};
+use below::Refusal;
 use blocks::BLOCK;
 
-const TOO_SHORT: u8 = 10;
-
-#[derive(Clone, Copy)]
-pub struct Booked {
-    pub refusal: u8,
-    // How many numbers of the lent row are the list; 0 if refused.
-    pub count: u16,
-}
-
-pub fn book(blocks: &[u8], list: &mut [u32]) -> Booked
-    ensures { Books blocks.now list.old list.new result.refusal result.count }
+// The answer is how many numbers of the lent row are the list.
+pub fn book(blocks: &[u8], list: &mut [u32]) -> Result<u16, Refusal>
+    ensures { Books blocks.now list.old list.new (number_of result) (value_or 0 result) }
 {
-    let refusal = refusal_of(blocks);
-    if refusal != GRANTED {
-        return Booked { refusal, count: 0 };
-    }
-    let racks = racks_of(blocks);
+    refusal_of(blocks)?;
     let mut readings = [0u32; LONGEST];
+    let racks = racks_of(blocks);
     let count = walk(blocks, blocks.len() / BLOCK, racks, &mut readings);
-    if list.len() < count {
-        return Booked {
-            refusal: TOO_SHORT,
-            count: 0,
-        };
-    }
-    copy(&readings, count, list);
-    Booked {
-        refusal: GRANTED,
-        count: count as u16,
-    }
+    Refusal::PostFull.unless(count <= list.len())?;
+    list[..count].copy_from_slice(&readings[..count]);
+    Ok(count as u16)
 }

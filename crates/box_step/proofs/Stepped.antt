@@ -1,28 +1,32 @@
 -- The C step, by the ways through its code.
-use Rattle.std.proofs.Common.{ℕ, arith, eqb, length, take, take_all, eq-eqb, ne_eqb, eqb-true, ◌≡◌, refl, sym, ap, subst, ◌∙◌, Bool, true, false, cond, ◌&&◌, List}
+use Rattle.std.proofs.Common.{ℕ, arith, eqb, eqb-true, ◌≡◌, refl, sym, ap, subst, ◌∙◌, Bool, true, false, cond, ◌&&◌, Some, Result, Ok, Err, List}
 use borrow.Author.Tests.{eqb-false}
 use Rattle.std.proofs.Math.Bool.{false≢true}
-use Rattle.below.specs.Refusals.{unless, granted, bad_block, out_of_range}
-use Rattle.below.proofs.Tests.{and_left, and_right}
+use Rattle.below.specs.declared.refusals.Refusal.{Refusal}
+use Rattle.below.specs.declared.refusals.Refusal.TheVariants.{OutOfRange}
+use Rattle.below.specs.Refusals.{unless, granted, bad_block, out_of_range, number_of, value_or}
+use Rattle.below.proofs.Tests.{and_left}
 use Rattle.rounds.specs.Setups.{setup_in_range}
 use Rattle.records.specs.declared.stamp.Stamp.{Stamp}
 use Rattle.records.specs.Rules.{stamp_rules}
-use Rattle.words.specs.Bytes.{byte, zeros}
-use Rattle.blocks.specs.Frame.{block_size}
+use Rattle.words.specs.Bytes.{byte}
 use Rattle.blocks.specs.Kinds.{Kind, decode, kept, good}
 use Rattle.blocks.proofs.Ranges.{setup_fits, stamp_setup}
-use Rattle.message_blocks.specs.Messages.{propose, one_a, one_b, two_s, two_a, two_b}
-use Rattle.row_blocks.specs.Rows.{head, coordinator, box, rack, reader}
+use Rattle.blocks.specs.Messages.{propose, one_a, one_b, two_s, two_a, two_b}
+use Rattle.blocks.specs.Rows.{head, coordinator, box, rack, reader}
 use Rattle.kinds.specs.Known.{good_as, known}
 use Rattle.acts.specs.declared.step.Step.{Step}
 use Rattle.acts.specs.declared.numbers.Numbers.{Numbers}
 use Rattle.acts.specs.Acts.{Act}
 use Rattle.acts.specs.Named.{stamp_of, own_act, named_refusal}
+use Rattle.acts.specs.declared.code.Code.{Code}
+use Rattle.acts.specs.Codes.{code_number, code_at}
 use Rattle.acts.specs.Answers.{Acts, step_of}
 use Rattle.hall.specs.Steps.{is_code, numbers_in_range}
 use Rattle.step_numbers.specs.Narrowed.{narrowed}
+use Rattle.step_numbers.proofs.Codes.{code_told, code_is}
 use Rattle.step_numbers.proofs.SameAct.{same_act, same_named}
-use Rattle.box_step.specs.BoxSteps.{is_block, range_refusal, box_refusal, box_row_after, box_sent_after, BoxSteps}
+use Rattle.box_step.specs.BoxSteps.{is_block, range_refusal, box_refusal}
 
 -- a good block of whichever kind has its setup in range
 good_setup : {A : Type 0} (k : Kind A) (block : List ℕ) → good k block ≡ true → setup_in_range (stamp_of block).setup ≡ true
@@ -52,6 +56,10 @@ known_setup block h =
     at true k later e = good_setup k block e
     at false k later e = later e
 
+-- what was found out of range, as it is handed to the act
+abbrev outcome : Bool → Result (Unit {0}) Refusal
+outcome b = cond b (Ok tt) (Err OutOfRange)
+
 -- numbers out of range have a number of their own
 in_range : (b : Bool) → eqb (unless b out_of_range granted) granted ≡ true → b ≡ true
 in_range true e = refl
@@ -67,96 +75,46 @@ named_good own late x row message h = go (known row) (eqb late granted) _ refl h
     go true false rest e k = absurd (eqb-false _ _ e k)
     go false l rest e k = absurd (omega (arith, k))
 
-module _ (row message sent : List ℕ) (x : Step) where
-  refused_with : (n : ℕ) → eqb n granted ≡ false → box_refusal row message sent x ≡ n → BoxSteps row message sent row sent x n
-  unfolding box_row_after box_sent_after
-  refused_with n e h = record { answered = sym h; row_left = rw (h, e); sent_left = rw (h, e) }
+-- an act is known by its refusal, and where it is granted by what it makes
+same_acts : {n m refusal : ℕ} {y z : Act} {sends : Bool} {a b a' b' : List ℕ} → n ≡ m → (m ≡ granted → y ≡ z) → Acts n y refusal sends a b a' b' → Acts m z refusal sends a b a' b'
+same_acts {n} {m} {refusal} {y} {z} {sends} {a} {b} {a'} {b'} e f s = go (eqb m granted) refl (subst (λ (k : ℕ). Acts k y refusal sends a b a' b') e s)
+  where
+    go : (t : Bool) → eqb m granted ≡ t → Acts m y refusal sends a b a' b' → Acts m z refusal sends a b a' b'
+    go true h s = subst (λ (k : Act). Acts m k refusal sends a b a' b') (f (eqb-true _ _ h)) s
+    go false h s = record { numbered = s.numbered; sending = s.sending ∙ rw h; kept = s.kept ∙ rw h; told = s.told ∙ rw h }
 
-  pub wrong_length_lem : is_block row && (is_block message && is_block sent) ≡ false → BoxSteps row message sent row sent x 1
+-- What the act answers is the C step's answer: `k` is the code's step, `own` the row's stamp.
+module _ (row message sent : List ℕ) (x : Step) (result : Result Bool Refusal) {k : Code} {own : Stamp} {numbers : Numbers} {inside : Bool} {late : Result (Unit {0}) Refusal} {a a' b' : List ℕ}
+    (long : is_block row && (is_block message && is_block sent) ≡ true) (told : code_at x.code ≡ Some k) (own_is : own ≡ stamp_of row)
+    (inside_is : inside ≡ numbers_in_range own.setup x) (late_said : late ≡ outcome inside) (numbers_are : numbers ≡ narrowed x)
+    (said : Acts (named_refusal own (number_of late) (step_of (code_number k) numbers) row message) (own_act (step_of (code_number k) numbers) row message) (number_of result)
+    (value_or false result) a sent a' b') where
+  code : is_code x.code ≡ true
+  code = code_is x.code k told
+
+  late_is : number_of late ≡ range_refusal (stamp_of row).setup x
+  late_is = ap number_of late_said ∙ out inside ∙ ap (λ (b : Bool). unless b out_of_range granted) inside_is ∙ ap (λ (o : Stamp). range_refusal o.setup x) own_is
+    where
+      out : (b : Bool) → number_of (outcome b) ≡ unless b out_of_range granted
+      out true = refl
+      out false = refl
+
+  act_is : known row ≡ true → eqb (number_of late) granted ≡ true → own_act (step_of x.code (narrowed x)) row message ≡ own_act x row message
+  act_is g l =
+      same_act (stamp_of row).setup (setup_fits (stamp_of row).setup (known_setup row g)) x
+      (in_range (numbers_in_range (stamp_of row).setup x) (ap (λ (n : ℕ). eqb n granted) (sym late_is) ∙ l)) (stamp_of row) row message message code (λ _. refl)
+
+  number_is : named_refusal (stamp_of row) (number_of late) (step_of x.code (narrowed x)) row message ≡ box_refusal row message sent x
   unfolding box_refusal
-  wrong_length_lem h = refused_with 1 refl (rw h)
+  number_is =
+      same_named x (stamp_of row) (number_of late) row message message (λ _. refl) act_is ∙ ap (λ (n : ℕ). named_refusal (stamp_of row) n x row message) late_is ∙
+      rw (long, code)
 
-  module _ (long : is_block row && (is_block message && is_block sent) ≡ true) where
-    pub no_such_step_lem : is_code x.code ≡ false → BoxSteps row message sent row sent x 4
-    unfolding box_refusal
-    no_such_step_lem h = refused_with 4 refl (rw (long, h))
+  abbrev Said : Stamp → Numbers → ℕ → Type 0
+  Said o y n = Acts (named_refusal o (number_of late) (step_of n y) row message) (own_act (step_of n y) row message) (number_of result) (value_or false result) a sent a' b'
 
-    -- `part` is the row as it was lent to the act, `own` its stamp
-    module _ (code : is_code x.code ≡ true) {part : List ℕ} {own : Stamp} {numbers : Numbers} {late refusal : ℕ} {sends : Bool} {a a' b' : List ℕ} (part_is : part ≡ row)
-        (own_is : own ≡ stamp_of part) (late-said : late ≡ range_refusal own.setup x) (numbers-are : numbers ≡ narrowed x)
-        (said : Acts (named_refusal own late (step_of x.code numbers) part message) (own_act (step_of x.code numbers) part message) refusal sends a sent a' b') where
-      abbrev Said : Stamp → Numbers → List ℕ → Type 0
-      Said o y l = Acts (named_refusal o late (step_of x.code y) l message) (own_act (step_of x.code y) l message) refusal sends a sent a' b'
-
-      acted : Said (stamp_of row) (narrowed x) row
-      acted =
-          subst (λ (l : List ℕ). Said (stamp_of l) (narrowed x) l) part_is
-          (subst (λ (o : Stamp). Said o (narrowed x) part) own_is (subst (λ (y : Numbers). Said own y part) numbers-are said))
-
-      late_is : late ≡ range_refusal (stamp_of row).setup x
-      late_is = late-said ∙ ap (λ (o : Stamp). range_refusal o.setup x) (own_is ∙ ap stamp_of part_is)
-
-      number : ℕ
-      number = named_refusal (stamp_of row) (range_refusal (stamp_of row).setup x) x row message
-
-      past : box_refusal row message sent x ≡ number
-      unfolding box_refusal number
-      past = rw (long, code)
-
-      act_is : known row ≡ true → eqb late granted ≡ true → own_act (step_of x.code (narrowed x)) row message ≡ own_act x row message
-      act_is g l =
-          same_act (stamp_of row).setup (setup_fits (stamp_of row).setup (known_setup row g)) x
-          (in_range (numbers_in_range (stamp_of row).setup x) (ap (λ (n : ℕ). eqb n granted) (sym late_is) ∙ l)) (stamp_of row) row message message code (λ _. refl)
-
-      number_is : refusal ≡ number
-      unfolding number
-      number_is =
-          acted.numbered ∙ same_named x (stamp_of row) late row message message (λ _. refl) act_is ∙ ap (λ (n : ℕ). named_refusal (stamp_of row) n x row message) late_is
-
-      pub act_refused : (refusal ≡ granted → ⊥) → BoxSteps row message sent row b' x refusal
-      act_refused h = subst (λ (l : List ℕ). BoxSteps row message sent row l x refusal) (sym kept_sent) (refused_with refusal (ne_eqb refusal granted h) (past ∙ sym number_is))
-        where
-          kept_sent : b' ≡ sent
-          kept_sent = acted.told ∙ rw (ap (λ (n : ℕ). eqb n granted) (sym acted.numbered) ∙ ne_eqb refusal granted h)
-
-      -- the act is granted
-      module _ (h : refusal ≡ granted) where
-        own_zero : named_refusal (stamp_of row) late (step_of x.code (narrowed x)) row message ≡ granted
-        own_zero = sym acted.numbered ∙ h
-
-        done : own_act (step_of x.code (narrowed x)) row message ≡ own_act x row message
-        done = let f = named_good (stamp_of row) late (step_of x.code (narrowed x)) row message own_zero in act_is f.0 f.1
-
-        zero_is : box_refusal row message sent x ≡ granted
-        zero_is = past ∙ sym number_is ∙ h
-
-        sends_is : sends ≡ (own_act x row message).sends
-        sends_is = acted.sending ∙ rw (eq-eqb _ _ own_zero) (ap (λ (y : Act). y.sends) done)
-
-        sent_is : b' ≡ cond (own_act x row message).sends (own_act x row message).sent sent
-        sent_is = acted.told ∙ rw (eq-eqb _ _ own_zero) (ap (λ (y : Act). cond y.sends y.sent sent) done)
-
-        pub stepped : {row_after sent_after : List ℕ} → row_after ≡ a' → sent_after ≡ cond sends b' (zeros block_size) → BoxSteps row message sent row_after sent_after x 0
-        unfolding box_row_after box_sent_after
-        stepped p q =
-            record {
-              answered = sym zero_is;
-              row_left = p ∙ acted.kept ∙ rw (eq-eqb _ _ own_zero) (ap (λ (y : Act). y.row) done) ∙ ap (λ (n : ℕ). cond (eqb n granted) (own_act x row message).row row) (sym zero_is);
-              sent_left =
-                  q ∙ ap (λ (y : Bool). cond y b' (zeros block_size)) sends_is ∙ go (own_act x row message).sends sent_is ∙
-                  ap (λ (n : ℕ). cond (eqb n granted) (cond (own_act x row message).sends (own_act x row message).sent (zeros block_size)) sent) (sym zero_is);
-            }
-          where
-            go : (y : Bool) → b' ≡ cond y (own_act x row message).sent sent → cond y b' (zeros block_size) ≡ cond y (own_act x row message).sent (zeros block_size)
-            go true e = e
-            go false e = refl
-
--- the row is lent whole
-pub whole : (row : List ℕ) → length row ≡ block_size → take block_size row ≡ row
-whole row l = take_all block_size row (omega (arith, l))
-
-pub lengths : {r : Bool} (row message sent : List ℕ) → r ≡ is_block row && (is_block message && is_block sent) → r ≡ true →
-    (length row ≡ block_size) × ((length message ≡ block_size) × (length sent ≡ block_size))
-lengths row message sent e h =
-    let rest = and_right (is_block row) _ (sym e ∙ h) in
-    (eqb-true _ _ (and_left (is_block row) _ (sym e ∙ h)), (eqb-true _ _ (and_left (is_block message) _ rest), eqb-true _ _ (and_right (is_block message) _ rest)))
+  pub acted : Acts (box_refusal row message sent x) (own_act x row message) (number_of result) (value_or false result) a sent a' b'
+  acted =
+      same_acts number_is (λ e. let f = named_good (stamp_of row) (number_of late) (step_of x.code (narrowed x)) row message (number_is ∙ e) in act_is f.0 f.1)
+      (subst (λ (o : Stamp). Said o (narrowed x) x.code) own_is
+      (subst (λ (y : Numbers). Said own y x.code) numbers_are (subst (Said own numbers) (code_told x.code k told) said)))

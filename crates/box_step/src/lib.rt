@@ -5,38 +5,16 @@
 // step makes of the two blocks is the same act. On a refusal not one byte changes.
 #![tactic(auto)]
 
-ghost use Rattle.std.specs.Prelude.{eqb, length, cond, ◌&&◌, ◌≡◌};
+ghost use Rattle.std.specs.Prelude.{length, cond, ◌≡◌};
+ghost use Rattle.below.specs.Refusals.{number_of};
 ghost use Rattle.words.specs.Bytes.{zeros};
 ghost use Rattle.blocks.specs.Frame.{block_size};
-ghost use Rattle.box_step.specs.BoxSteps.{range_refusal, BoxSteps};
+ghost use Rattle.box_step.specs.BoxSteps.{BoxSteps};
 
-use acts::{Step, act};
-use below::both;
+use acts::{Code, Step, act};
+use below::Refusal;
 use blocks::{BLOCK, read_stamp};
-use rounds::Setup;
-use step_numbers::{is_code, narrow, numbers_in_range};
-
-const WRONG_LENGTH: u32 = 1;
-
-const NO_SUCH_STEP: u32 = 4;
-
-const OUT_OF_RANGE: u8 = 11;
-
-fn are_blocks(row: usize, message: usize, sent: usize) -> bool
-    ensures { result ≡ eqb row block_size && (eqb message block_size && eqb sent block_size) }
-{
-    both(row == BLOCK, both(message == BLOCK, sent == BLOCK))
-}
-
-fn range_refusal(setup: Setup, step: Step) -> u8
-    ensures { result ≡ range_refusal setup step }
-{
-    if numbers_in_range(setup, step) {
-        0
-    } else {
-        OUT_OF_RANGE
-    }
-}
+use step_numbers::{narrow, numbers_in_range};
 
 // The message sent is all zero where none is sent.
 fn clear_unless(sends: bool, sent: &mut [u8])
@@ -44,10 +22,11 @@ fn clear_unless(sends: bool, sent: &mut [u8])
     ensures { sent.new ≡ cond sends sent.old (zeros block_size) }
 {
     if !sends {
-        words::put_zeros(sent, 0, BLOCK);
+        sent.fill(0);
     }
 }
 
+#[tactic(auto, using(step_numbers::proofs::Codes::code_none), unfolding(crate::specs::BoxSteps::box_refusal, crate::specs::BoxSteps::box_row_after, crate::specs::BoxSteps::box_sent_after))]
 pub fn step(
     row: &mut [u8],
     message: &[u8],
@@ -59,15 +38,11 @@ pub fn step(
     c: u32,
     cf: u32,
     reading: u32,
-) -> u32
-    ensures { BoxSteps row.old message.now sent.old row.new sent.new (record { code = code; agent = agent; message = number; n = n; c = c; cf = cf; reading = reading }) result }
+) -> Result<(), Refusal>
+    ensures { BoxSteps row.old message.now sent.old row.new sent.new (record { code = code; agent = agent; message = number; n = n; c = c; cf = cf; reading = reading }) (number_of result) }
 {
-    if !are_blocks(row.len(), message.len(), sent.len()) {
-        return WRONG_LENGTH;
-    }
-    if !is_code(code) {
-        return NO_SUCH_STEP;
-    }
+    let blocks = row.len() == BLOCK && message.len() == BLOCK && sent.len() == BLOCK;
+    Refusal::WrongLength.unless(blocks)?;
     let step = Step {
         code,
         agent,
@@ -77,24 +52,21 @@ pub fn step(
         cf,
         reading,
     };
-    let own = read_stamp(&row[0..BLOCK]);
-    let late = range_refusal(own.setup, step);
-    let numbers = narrow(step);
+    let code = Code::of(code).ok_or(Refusal::NoSuchStep)?;
+    let own = read_stamp(row);
+    let late = Refusal::OutOfRange.unless(numbers_in_range(own.setup, step));
     let mut after = [0u8; BLOCK];
-    let acted = act(
+    let sends = act(
         code,
-        numbers,
+        narrow(step),
         own,
         late,
-        &row[0..BLOCK],
+        row,
         message,
         &mut after,
         sent,
-    );
-    if acted.refusal != 0 {
-        return acted.refusal as u32;
-    }
+    )?;
     row.copy_from_slice(&after);
-    clear_unless(acted.sends, sent);
-    0
+    clear_unless(sends, sent);
+    Ok(())
 }

@@ -17,17 +17,18 @@ use Rattle.rounds.specs.declared.order.Order.{Order}
 use Rattle.rounds.specs.Rounds.{order_of, is_below, is_equal, is_clash, is_up_to}
 use Rattle.rounds.proofs.Ordered.{Lower, above_is, up_to_is, lower_below, equal_order}
 use Rattle.records.specs.declared.messages.OneA.{OneA}
+use Rattle.records.specs.declared.messages.OneB.{OneB}
 use Rattle.records.specs.declared.messages.TwoS.{TwoS}
 use Rattle.records.specs.declared.messages.TwoA.{TwoA}
+use Rattle.records.specs.declared.messages.TwoB.{TwoB}
 use Rattle.records.specs.declared.rows.BoxRow.{BoxRow}
-use Rattle.boxes.specs.declared.answer.Joined.{Joined}
-use Rattle.boxes.specs.declared.answer.Taken.{Taken}
+use Rattle.records.specs.Answers.{Answer}
 use Rattle.boxes.specs.Steps.{no_one_b, no_two_b, join_refusal, join_row, join_sent, join_of, may_vote, voted, telling, taken, take_page_refusal, take_page_of, take_reading_refusal, take_reading_page, take_reading_of}
 
 -- 3 join: the number answered is that of the first condition that fails
 pub join_number : (row : BoxRow) (m : OneA) → (join_of row m).refusal ≡ join_refusal row m
 unfolding join_of
-join_number row m = answer_number (λ (a : Joined). a.refusal) (join_refusal row m) _ _ refl refl
+join_number row m = answer_number (λ (a : Answer BoxRow OneB). a.refusal) (join_refusal row m) _ _ refl refl
 
 pub record JoinGranted (row : BoxRow) (m : OneA) : Type 0 where
   pub above : Lower row.rnd m.round
@@ -39,8 +40,8 @@ unfolding join_of join_refusal join_row join_sent
 join_granted row m h =
     record {
       above = above_is m.round row.rnd (unless_held _ wrong_round granted (omega arith) number);
-      row_is = ap (λ (a : Joined). a.row) answer;
-      sent_is = ap (λ (a : Joined). a.sent) answer;
+      row_is = ap (λ (a : Answer BoxRow OneB). a.row) answer;
+      sent_is = ap (λ (a : Answer BoxRow OneB). a.sent) answer;
     }
   where
     number : join_refusal row m ≡ granted
@@ -56,7 +57,7 @@ join_refused row m h = answer_refused (join_refusal row m) _ _ h
 
 -- a box that votes was not refused, and one that was refused tells nothing
 taken_number : (number : ℕ) (row : BoxRow) (round : Round) (page : Page) → (taken number row round page).refusal ≡ number
-taken_number number row round page = answer_number (λ (a : Taken). a.refusal) number _ _ refl refl
+taken_number number row round page = answer_number (λ (a : Answer BoxRow TwoB). a.refusal) number _ _ refl refl
 
 taken_granted : (number : ℕ) (row : BoxRow) (round : Round) (page : Page) → number ≡ granted →
     taken number row round page ≡ record { refusal = granted; row = voted round page; sent = telling round page }
@@ -95,8 +96,8 @@ take_page_granted row m h =
           λ e.
           subst (λ (o : Order). is_equal o && row.vval.some ≡ false) (ap (order_of row.vrnd) (sym e) ∙ equal_order row.vrnd)
           (not-true _ (unless_held _ already_done granted (omega arith) (unless_later (may_vote row m.round) wrong_round later (omega arith) number')));
-      row_is = ap (λ (a : Taken). a.row) answer;
-      sent_is = ap (λ (a : Taken). a.sent) answer;
+      row_is = ap (λ (a : Answer BoxRow TwoB). a.row) answer;
+      sent_is = ap (λ (a : Answer BoxRow TwoB). a.sent) answer;
     }
   where
     later : ℕ
@@ -136,8 +137,8 @@ take_reading_granted s row rack m h =
     record {
       reading = reading_is m.line.mark (unless_held (is_reading m.line.mark) wrong_message later (omega arith) number);
       may = unless_held _ wrong_round granted (omega arith) (unless_later (is_reading m.line.mark) wrong_message later (omega arith) number);
-      row_is = ap (λ (a : Taken). a.row) answer;
-      sent_is = ap (λ (a : Taken). a.sent) answer;
+      row_is = ap (λ (a : Answer BoxRow TwoB). a.row) answer;
+      sent_is = ap (λ (a : Answer BoxRow TwoB). a.sent) answer;
     }
   where
     later : ℕ

@@ -9,11 +9,12 @@ use Rattle.rounds.specs.declared.setup.Setup.{Setup}
 use Rattle.rounds.specs.declared.round.Round.{Round}
 use Rattle.rounds.specs.Rounds.{order_of, is_below}
 use Rattle.records.specs.declared.messages.OneA.{OneA}
+use Rattle.records.specs.declared.messages.OneB.{OneB}
 use Rattle.records.specs.declared.messages.TwoS.{TwoS}
 use Rattle.records.specs.declared.messages.TwoA.{TwoA}
+use Rattle.records.specs.declared.messages.TwoB.{TwoB}
 use Rattle.records.specs.declared.rows.BoxRow.{BoxRow}
-use Rattle.boxes.specs.declared.answer.Joined.{Joined}
-use Rattle.boxes.specs.declared.answer.Taken.{Taken}
+use Rattle.records.specs.Answers.{Answer}
 use Rattle.boxes.specs.Steps.{no_one_b, no_two_b, join_refusal, join_row, join_sent, join_of, voted, telling, taken, take_page_refusal, take_page_of, take_reading_refusal, take_reading_page, take_reading_of}
 
 abbrev pub BoxShape : BoxRow → Type 0
@@ -23,7 +24,7 @@ pub join_shape : (row : BoxRow) (m : OneA) → BoxShape row → BoxShape (join_o
 unfolding join_of join_row join_sent
 join_shape row m h = go (eqb (join_refusal row m) granted)
   where
-    answer : Bool → Joined
+    answer : Bool → Answer BoxRow OneB
     answer b =
         cond b (record { refusal = granted; row = join_row row m; sent = join_sent row m }) (record { refusal = join_refusal row m; row = row; sent = no_one_b })
 
@@ -35,7 +36,7 @@ taken_shape : (number : ℕ) (row : BoxRow) (round : Round) (page : Page) → Bo
     BoxShape (taken number row round page).row × Whole (taken number row round page).sent.page
 taken_shape number row round page h p = go (eqb number granted)
   where
-    answer : Bool → Taken
+    answer : Bool → Answer BoxRow TwoB
     answer b = cond b (record { refusal = granted; row = voted round page; sent = telling round page }) (record { refusal = number; row = row; sent = no_two_b })
 
     go : (b : Bool) → BoxShape (answer b).row × Whole (answer b).sent.page

@@ -15,8 +15,7 @@ use Rattle.records.specs.declared.messages.TwoS.{TwoS}
 use Rattle.records.specs.declared.messages.TwoA.{TwoA}
 use Rattle.records.specs.declared.messages.TwoB.{TwoB}
 use Rattle.records.specs.declared.rows.BoxRow.{BoxRow}
-use Rattle.boxes.specs.declared.answer.Joined.{Joined}
-use Rattle.boxes.specs.declared.answer.Taken.{Taken}
+use Rattle.records.specs.Answers.{Answer}
 
 -- a refused step leaves the row as it was and sends nothing
 abbrev pub no_one_b : OneB
@@ -35,7 +34,7 @@ join_row row m = record { rnd = m.round; vrnd = row.vrnd; vval = row.vval }
 unfoldable pub join_sent : BoxRow → OneA → OneB
 join_sent row m = record { round = m.round; vrnd = row.vrnd; vote = row.vval }
 
-unfoldable pub join_of : BoxRow → OneA → Joined
+unfoldable pub join_of : BoxRow → OneA → Answer BoxRow OneB
 join_of row m =
     cond (eqb (join_refusal row m) granted) (record { refusal = granted; row = join_row row m; sent = join_sent row m })
     (record { refusal = join_refusal row m; row = row; sent = no_one_b })
@@ -51,7 +50,7 @@ voted round page = record { rnd = round; vrnd = round; vval = some page }
 abbrev pub telling : Round → Page → TwoB
 telling round page = record { round = round; page = page }
 
-abbrev pub taken : ℕ → BoxRow → Round → Page → Taken
+abbrev pub taken : ℕ → BoxRow → Round → Page → Answer BoxRow TwoB
 taken number row round page =
     cond (eqb number granted) (record { refusal = granted; row = voted round page; sent = telling round page })
     (record { refusal = number; row = row; sent = no_two_b })
@@ -63,7 +62,7 @@ take_page_refusal row m =
     (unless (may_vote row m.round) wrong_round
     (unless (not (is_equal (order_of row.vrnd m.round) && row.vval.some)) already_done granted))
 
-unfoldable pub take_page_of : BoxRow → TwoS → Taken
+unfoldable pub take_page_of : BoxRow → TwoS → Answer BoxRow TwoB
 take_page_of row m = taken (take_page_refusal row m) row m.round m.page
 
 -- 10 take reading (2A with a reading, of `rack`): rnd not above, else 6. If vrnd is lower or vval none, vval is that one line
@@ -79,5 +78,5 @@ take_reading_page s row rack m =
     (nil_extension (outside m.round.cf s.racks) (append_of empty rack m.line.mark))
     (append_of row.vval.page rack m.line.mark)
 
-unfoldable pub take_reading_of : Setup → BoxRow → ℕ → TwoA → Taken
+unfoldable pub take_reading_of : Setup → BoxRow → ℕ → TwoA → Answer BoxRow TwoB
 take_reading_of s row rack m = taken (take_reading_refusal row m) row m.round (take_reading_page s row rack m)

@@ -1,162 +1,93 @@
 // Join, take page and take reading.
-ghost use Rattle.std.specs.Prelude.{◌≡◌, cond, not, ◌&&◌};
-ghost use Rattle.below.specs.Refusals.{unless, granted, wrong_message, wrong_round, already_done};
-ghost use Rattle.pages.specs.Racks.{outside};
-ghost use Rattle.pages.specs.Pages.{empty, append_of, nil_extension};
-ghost use Rattle.rounds.specs.Rounds.{order_of, is_above, is_clash, is_up_to};
-ghost use Rattle.boxes.specs.Steps.{join_of, take_page_of, take_reading_of, voted, telling, no_two_b};
+ghost use Rattle.std.specs.Prelude.{◌≡◌};
+ghost use Rattle.records.specs.Answers.{answer_of};
+ghost use Rattle.boxes.specs.Steps.{join_of, may_vote, voted, telling, take_page_of, take_reading_page, take_reading_of, no_one_b, no_two_b};
 
-use crate::answer::{Joined, Taken};
-use below::{ALREADY_DONE, GRANTED, WRONG_MESSAGE, WRONG_ROUND, both, either, unless};
-use pages::{Line, Page, Vote, outside};
-use records::{BoxRow, NO_ROUND, OneA, OneB, TwoA, TwoB, TwoS};
-use rounds::{Order, Round, Setup};
+use below::Refusal;
+use pages::{Page, Vote, outside};
+use records::{BoxRow, Granted, OneA, OneB, TwoA, TwoB, TwoS};
+use rounds::{Round, Setup};
 
-fn join_refusal(rnd: Round, round: Round) -> u8
-    ensures { result ≡ unless (is_above (order_of round rnd)) wrong_round granted }
+// Whether a box may vote in a round: rnd is not above it, and it clashes with neither rnd nor vrnd.
+fn may_vote(row: BoxRow, round: Round) -> bool
+    ensures { result ≡ may_vote row round }
 {
-    unless(round.compare(rnd).is_above(), WRONG_ROUND, GRANTED)
+    row.rnd.compare(round).is_up_to() && !row.vrnd.compare(round).is_clash()
 }
 
-// Whether a box may vote in a round: rnd is not above it, and it clashes with neither rnd nor vrnd,
-// to which it stands as `last` says.
-fn may_vote(rnd: Round, round: Round, last: Order) -> bool
-    ensures { result ≡ is_up_to (order_of rnd round) && not (is_clash last) }
+// The page of a vote for a reading: the first of its round is that one line, and Nil of the racks
+// outside cf; else one line more.
+#[tactic(auto, unfolding(crate::specs::Steps::take_reading_page, pages::specs::Pages::empty, pages::specs::Pages::page, below::specs::Below::row), using(pages::proofs::Extension::nil_outside))]
+fn reading_page(setup: Setup, row: BoxRow, rack: u8, message: TwoA) -> Page
+    ensures { result ≡ take_reading_page setup row rack message }
 {
-    both(rnd.compare(round).is_up_to(), !last.is_clash())
-}
-
-fn take_page_refusal(empty: bool, may: bool, same: bool, voted: bool) -> u8
-    ensures { result ≡ unless (not empty) wrong_message (unless may wrong_round (unless (not (same && voted)) already_done granted)) }
-{
-    let done = unless(!both(same, voted), ALREADY_DONE, GRANTED);
-    unless(!empty, WRONG_MESSAGE, unless(may, WRONG_ROUND, done))
-}
-
-fn take_reading_refusal(reading: bool, may: bool) -> u8
-    ensures { result ≡ unless reading wrong_message (unless may wrong_round granted) }
-{
-    unless(reading, WRONG_MESSAGE, unless(may, WRONG_ROUND, GRANTED))
-}
-
-// The first page of a round that starts with a reading: that one line, and Nil of the racks outside
-// cf, which will not speak.
-fn first_page(racks: u8, cf: u8, rack: u8, line: Line) -> Page
-    ensures { result ≡ nil_extension (outside cf racks) (append_of empty rack line.mark) }
-{
-    let page = Page::EMPTY;
-    page.append(rack as usize, line)
-        .nil_extension(outside(cf, racks))
-}
-
-// The page of a vote for a reading: the first of its round, or one line more.
-fn page_with(first: bool, racks: u8, cf: u8, page: Page, rack: u8, line: Line) -> Page
-    ensures { result ≡ cond first (nil_extension (outside cf racks) (append_of empty rack line.mark)) (append_of page rack line.mark) }
-{
-    if first {
-        first_page(racks, cf, rack, line)
+    let lower = row.vrnd.compare(message.round).is_below();
+    if lower || !row.vval.some {
+        Page::EMPTY
+            .append(usize::from(rack), message.line)
+            .nil_extension(outside(message.round.cf, setup.racks))
     } else {
-        page.append(rack as usize, line)
+        row.vval.page.append(usize::from(rack), message.line)
     }
 }
 
 // The box votes for the page in the round and tells it.
-fn vote(round: Round, page: Page) -> Taken
-    ensures { result ≡ record { refusal = granted; row = voted round page; sent = telling round page } }
+fn vote(round: Round, page: Page) -> Granted<BoxRow, TwoB>
+    ensures { (result.row ≡ voted round page) × (result.sent ≡ telling round page) }
 {
-    Taken {
-        refusal: GRANTED,
+    Granted {
         row: BoxRow {
             rnd: round,
             vrnd: round,
-            vval: Vote { some: true, page },
+            vval: Vote::of(page),
         },
         sent: TwoB { round, page },
     }
 }
 
-fn refused(number: u8, row: BoxRow) -> Taken
-    ensures { result ≡ record { refusal = number; row = row; sent = no_two_b } }
-{
-    Taken {
-        refusal: number,
-        row,
-        sent: TwoB {
-            round: NO_ROUND,
-            page: Page::EMPTY,
-        },
-    }
-}
-
 // 3 join (1A).
-pub fn join(row: BoxRow, message: OneA) -> Joined
-    ensures { result ≡ join_of row message }
+#[tactic(auto, unfolding(crate::specs::Steps::join_of, crate::specs::Steps::join_refusal, crate::specs::Steps::join_row, crate::specs::Steps::join_sent))]
+pub fn join(row: BoxRow, message: OneA) -> Result<Granted<BoxRow, OneB>, Refusal>
+    ensures { answer_of row no_one_b result ≡ join_of row message }
 {
-    let round = message.round;
-    let number = join_refusal(row.rnd, round);
-    if number == GRANTED {
-        let vrnd = row.vrnd;
-        let vval = row.vval;
-        Joined {
-            refusal: GRANTED,
-            row: BoxRow {
-                rnd: round,
-                vrnd,
-                vval,
-            },
-            sent: OneB {
-                round,
-                vrnd,
-                vote: vval,
-            },
-        }
-    } else {
-        Joined {
-            refusal: number,
-            row,
-            sent: OneB {
-                round: NO_ROUND,
-                vrnd: NO_ROUND,
-                vote: Vote::NONE,
-            },
-        }
-    }
+    Refusal::WrongRound.unless(message.round.compare(row.rnd).is_above())?;
+    Ok(Granted {
+        row: BoxRow {
+            rnd: message.round,
+            ..row
+        },
+        sent: OneB {
+            round: message.round,
+            vrnd: row.vrnd,
+            vote: row.vval,
+        },
+    })
 }
 
 // 9 take page (2S not empty).
-pub fn take_page(row: BoxRow, message: TwoS) -> Taken
-    ensures { result ≡ take_page_of row message }
+#[tactic(auto, unfolding(crate::specs::Steps::take_page_of, crate::specs::Steps::take_page_refusal))]
+pub fn take_page(row: BoxRow, message: TwoS) -> Result<Granted<BoxRow, TwoB>, Refusal>
+    ensures { answer_of row no_two_b result ≡ take_page_of row message }
 {
-    let round = message.round;
-    let page = message.page;
-    let last = row.vrnd.compare(round);
-    let number = take_page_refusal(
-        page.is_empty(),
-        may_vote(row.rnd, round, last),
-        last.is_equal(),
-        row.vval.some,
-    );
-    if number == GRANTED {
-        vote(round, page)
-    } else {
-        refused(number, row)
-    }
+    let voted = row.vrnd.compare(message.round).is_equal() && row.vval.some;
+    Refusal::WrongMessage.unless(!message.page.is_empty())?;
+    Refusal::WrongRound.unless(may_vote(row, message.round))?;
+    Refusal::AlreadyDone.unless(!voted)?;
+    Ok(vote(message.round, message.page))
 }
 
 // 10 take reading (2A with a reading, of `rack`).
-pub fn take_reading(setup: Setup, row: BoxRow, rack: u8, message: TwoA) -> Taken
-    ensures { result ≡ take_reading_of setup row rack message }
+#[tactic(auto, unfolding(crate::specs::Steps::take_reading_of, crate::specs::Steps::take_reading_refusal))]
+pub fn take_reading(
+    setup: Setup,
+    row: BoxRow,
+    rack: u8,
+    message: TwoA,
+) -> Result<Granted<BoxRow, TwoB>, Refusal>
+    ensures { answer_of row no_two_b result ≡ take_reading_of setup row rack message }
 {
-    let round = message.round;
-    let line = message.line;
-    let last = row.vrnd.compare(round);
-    let number = take_reading_refusal(line.is_reading(), may_vote(row.rnd, round, last));
-    if number == GRANTED {
-        let vval = row.vval;
-        let first = either(last.is_below(), !vval.some);
-        let page = page_with(first, setup.racks, round.cf, vval.page, rack, line);
-        vote(round, page)
-    } else {
-        refused(number, row)
-    }
+    Refusal::WrongMessage.unless(message.line.is_reading())?;
+    Refusal::WrongRound.unless(may_vote(row, message.round))?;
+    let page = reading_page(setup, row, rack, message);
+    Ok(vote(message.round, page))
 }

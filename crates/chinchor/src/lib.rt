@@ -8,6 +8,8 @@ ghost use Rattle.hall.specs.Steps.{Steps};
 ghost use Rattle.box_step.specs.BoxSteps.{BoxSteps};
 ghost use Rattle.chinchor.specs.Answers.{BooksInC};
 
+use below::number_of;
+
 // One step on three separate buffers: the row, the message read, the message sent.
 #[unsafe(no_mangle)]
 pub extern "C" fn chinchor_box_step(
@@ -24,7 +26,8 @@ pub extern "C" fn chinchor_box_step(
 ) -> u32
     ensures { BoxSteps row.old message.now sent.old row.new sent.new (record { code = code; agent = agent; message = number; n = n; c = c; cf = cf; reading = reading }) result }
 {
-    box_step::step(row, message, sent, code, agent, number, n, c, cf, reading)
+    let answer = box_step::step(row, message, sent, code, agent, number, n, c, cf, reading);
+    number_of(answer)
 }
 
 // A hall is set up anew.
@@ -41,7 +44,8 @@ pub extern "C" fn chinchor_hall_setup(
 ) -> u32
     ensures { Sets hall.old hall.new instance (setup_of racks boxes coordinators readers c0 cf0) result }
 {
-    hall::setup(hall, instance, racks, boxes, coordinators, readers, c0, cf0)
+    let answer = hall::setup(hall, instance, racks, boxes, coordinators, readers, c0, cf0);
+    number_of(answer)
 }
 
 // One step of a whole hall.
@@ -58,7 +62,8 @@ pub extern "C" fn chinchor_hall_step(
 ) -> u32
     ensures { Steps hall.old hall.new (record { code = code; agent = agent; message = number; n = n; c = c; cf = cf; reading = reading }) result }
 {
-    hall_step::step(hall, code, agent, number, n, c, cf, reading)
+    let answer = hall_step::step(hall, code, agent, number, n, c, cf, reading);
+    number_of(answer)
 }
 
 // The list of readings out of the blocks of one reader: the answer and 65,536 times the count.
@@ -66,6 +71,8 @@ pub extern "C" fn chinchor_hall_step(
 pub extern "C" fn chinchor_book(blocks: &[u8], list: &mut [u32]) -> u64
     ensures { BooksInC blocks.now list.old list.new result }
 {
-    let booked = book::book(blocks, list);
-    booked.refusal as u64 + 65536 * booked.count as u64
+    match book::book(blocks, list) {
+        Ok(count) => 65536 * u64::from(count),
+        Err(refusal) => u64::from(refusal.number()),
+    }
 }

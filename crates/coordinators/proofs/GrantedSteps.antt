@@ -9,18 +9,18 @@ use Rattle.rounds.specs.declared.setup.Setup.{Setup}
 use Rattle.rounds.specs.Setups.{majority_of}
 use Rattle.rounds.specs.Rounds.{round_of, order_of, is_equal}
 use Rattle.rounds.proofs.Ordered.{Lower, above_is, equal_is}
+use Rattle.records.specs.declared.messages.OneA.{OneA}
 use Rattle.records.specs.declared.messages.OneB.{OneB}
+use Rattle.records.specs.declared.messages.TwoS.{TwoS}
 use Rattle.records.specs.declared.rows.CoordinatorRow.{CoordinatorRow}
 use Rattle.records.specs.Slots.{heard_at}
-use Rattle.coordinators.specs.declared.answer.Started.{Started}
-use Rattle.coordinators.specs.declared.answer.Hearing.{Hearing}
-use Rattle.coordinators.specs.declared.answer.Opened.{Opened}
+use Rattle.records.specs.Answers.{Answer, Noted}
 use Rattle.coordinators.specs.Steps.{no_one_a, no_two_s, start_refusal, start_row, start_of, hear_refusal, hear_row, hear_of, any_clash, heard_count, joined_votes, open_page, open_refusal, open_row, open_of}
 
 -- 2 start: the number answered is that of the first condition that fails
 pub start_number : (agent : ℕ) (r : CoordinatorRow) (n cf : ℕ) → (start_of agent r n cf).refusal ≡ start_refusal r (round_of n agent cf)
 unfolding start_of
-start_number agent r n cf = answer_number (λ (a : Started). a.refusal) (start_refusal r (round_of n agent cf)) _ _ refl refl
+start_number agent r n cf = answer_number (λ (a : Answer CoordinatorRow OneA). a.refusal) (start_refusal r (round_of n agent cf)) _ _ refl refl
 
 pub record StartGranted (agent : ℕ) (r : CoordinatorRow) (n cf : ℕ) : Type 0 where
   pub above : Lower r.crnd (round_of n agent cf)
@@ -32,8 +32,8 @@ unfolding start_of start_refusal
 start_granted agent r n cf h =
     record {
       above = above_is (round_of n agent cf) r.crnd (unless_held _ wrong_round granted (omega arith) number);
-      row_is = ap (λ (a : Started). a.row) answer;
-      sent_is = ap (λ (a : Started). a.sent) answer;
+      row_is = ap (λ (a : Answer CoordinatorRow OneA). a.row) answer;
+      sent_is = ap (λ (a : Answer CoordinatorRow OneA). a.sent) answer;
     }
   where
     number : start_refusal r (round_of n agent cf) ≡ granted
@@ -50,7 +50,7 @@ start_refused agent r n cf h = answer_refused (start_refusal r (round_of n agent
 -- 4 hear
 pub hear_number : (r : CoordinatorRow) (box : ℕ) (m : OneB) → (hear_of r box m).refusal ≡ hear_refusal r box m
 unfolding hear_of
-hear_number r box m = answer_number (λ (a : Hearing). a.refusal) (hear_refusal r box m) _ _ refl refl
+hear_number r box m = answer_number (λ (a : Noted CoordinatorRow). a.refusal) (hear_refusal r box m) _ _ refl refl
 
 pub record HearGranted (r : CoordinatorRow) (box : ℕ) (m : OneB) : Type 0 where
   pub same : m.round ≡ r.crnd
@@ -65,7 +65,7 @@ hear_granted r box m h =
       same = equal_is m.round r.crnd (unless_held (is_equal (order_of m.round r.crnd)) wrong_round later (omega arith) number);
       not_opened = not-true r.cval.some (and_left _ (not (heard_at r box).filled) new);
       not_heard = not-true (heard_at r box).filled (and_right (not r.cval.some) _ new);
-      row_is = ap (λ (a : Hearing). a.row) answer;
+      row_is = ap (λ (a : Noted CoordinatorRow). a.row) answer;
     }
   where
     later : ℕ
@@ -88,7 +88,7 @@ hear_refused r box m h = answer_refused (hear_refusal r box m) _ _ h
 -- 5 open
 pub open_number : (s : Setup) (agent : ℕ) (r : CoordinatorRow) → (open_of s agent r).refusal ≡ open_refusal s agent r
 unfolding open_of
-open_number s agent r = answer_number (λ (a : Opened). a.refusal) (open_refusal s agent r) _ _ refl refl
+open_number s agent r = answer_number (λ (a : Answer CoordinatorRow TwoS). a.refusal) (open_refusal s agent r) _ _ refl refl
 
 pub record OpenGranted (s : Setup) (agent : ℕ) (r : CoordinatorRow) : Type 0 where
   pub own : r.crnd.c ≡ agent
@@ -108,8 +108,8 @@ open_granted s agent r h =
       not_opened = not-true r.cval.some (unless_held (not r.cval.some) already_done enough (omega arith) after_round);
       majority = leb-true _ _ (unless_held most no_majority lines (omega arith) after_done);
       joined = unless_held (joined_votes r).some lines_clash granted (omega arith) (unless_later most no_majority lines (omega arith) after_done);
-      row_is = ap (λ (a : Opened). a.row) answer;
-      sent_is = ap (λ (a : Opened). a.sent) answer;
+      row_is = ap (λ (a : Answer CoordinatorRow TwoS). a.row) answer;
+      sent_is = ap (λ (a : Answer CoordinatorRow TwoS). a.sent) answer;
     }
   where
     fitting : Bool

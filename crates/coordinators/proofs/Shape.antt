@@ -9,12 +9,12 @@ use Rattle.rounds.specs.declared.setup.Setup.{Setup}
 use Rattle.rounds.specs.Setups.{most_boxes}
 use Rattle.rounds.specs.Rounds.{round_of}
 use Rattle.records.specs.declared.slots.Heard.{Heard}
+use Rattle.records.specs.declared.messages.OneA.{OneA}
 use Rattle.records.specs.declared.messages.OneB.{OneB}
+use Rattle.records.specs.declared.messages.TwoS.{TwoS}
 use Rattle.records.specs.declared.rows.CoordinatorRow.{CoordinatorRow}
 use Rattle.records.specs.Slots.{no_heard, heard_at}
-use Rattle.coordinators.specs.declared.answer.Started.{Started}
-use Rattle.coordinators.specs.declared.answer.Hearing.{Hearing}
-use Rattle.coordinators.specs.declared.answer.Opened.{Opened}
+use Rattle.records.specs.Answers.{Answer, Noted}
 use Rattle.coordinators.specs.Steps.{no_one_a, no_two_s, start_refusal, start_row, start_of, hear_refusal, hear_row, hear_of, any_vote, joined_votes, open_page, open_refusal, open_row, open_of}
 use Rattle.coordinators.proofs.Slots.{slot_set}
 
@@ -27,7 +27,7 @@ pub start_shape : (agent : ℕ) (r : CoordinatorRow) (n cf : ℕ) → Coordinato
 unfolding start_of start_row heard_at
 start_shape agent r n cf h = go (eqb (start_refusal r (round_of n agent cf)) granted)
   where
-    answer : Bool → Started
+    answer : Bool → Answer CoordinatorRow OneA
     answer b =
         cond b (record { refusal = granted; row = start_row (round_of n agent cf); sent = record { round = round_of n agent cf } })
         (record { refusal = start_refusal r (round_of n agent cf); row = r; sent = no_one_a })
@@ -45,7 +45,7 @@ pub hear_shape : (r : CoordinatorRow) (box : ℕ) (m : OneB) → CoordinatorShap
 unfolding hear_of hear_row heard_at
 hear_shape r box m h p = go (eqb (hear_refusal r box m) granted)
   where
-    answer : Bool → Hearing
+    answer : Bool → Noted CoordinatorRow
     answer b = cond b (record { refusal = granted; row = hear_row r box m }) (record { refusal = hear_refusal r box m; row = r })
 
     new : Heard
@@ -76,7 +76,7 @@ pub open_shape : (s : Setup) (agent : ℕ) (r : CoordinatorRow) → CoordinatorS
 unfolding open_of open_row heard_at
 open_shape s agent r h = go (eqb (open_refusal s agent r) granted)
   where
-    answer : Bool → Opened
+    answer : Bool → Answer CoordinatorRow TwoS
     answer b =
         cond b (record { refusal = granted; row = open_row r (open_page s r); sent = record { round = r.crnd; page = open_page s r } })
         (record { refusal = open_refusal s agent r; row = r; sent = no_two_s })

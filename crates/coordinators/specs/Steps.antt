@@ -16,9 +16,7 @@ use Rattle.records.specs.declared.messages.OneA.{OneA}
 use Rattle.records.specs.declared.messages.OneB.{OneB}
 use Rattle.records.specs.declared.messages.TwoS.{TwoS}
 use Rattle.records.specs.declared.rows.CoordinatorRow.{CoordinatorRow}
-use Rattle.coordinators.specs.declared.answer.Started.{Started}
-use Rattle.coordinators.specs.declared.answer.Hearing.{Hearing}
-use Rattle.coordinators.specs.declared.answer.Opened.{Opened}
+use Rattle.records.specs.Answers.{Answer, Noted}
 
 -- a refused step leaves the row as it was and sends nothing
 abbrev pub no_one_a : OneA
@@ -34,7 +32,7 @@ start_refusal r round = unless (is_above (order_of round r.crnd)) wrong_round gr
 unfoldable pub start_row : Round → CoordinatorRow
 start_row round = record { crnd = round; cval = none; heard = row most_boxes (λ box. no_heard) }
 
-unfoldable pub start_of : ℕ → CoordinatorRow → ℕ → ℕ → Started
+unfoldable pub start_of : ℕ → CoordinatorRow → ℕ → ℕ → Answer CoordinatorRow OneA
 start_of agent r n cf =
     cond (eqb (start_refusal r (round_of n agent cf)) granted)
     (record { refusal = granted; row = start_row (round_of n agent cf); sent = record { round = round_of n agent cf } })
@@ -50,7 +48,7 @@ unfoldable pub hear_row : CoordinatorRow → ℕ → OneB → CoordinatorRow
 hear_row r box m =
     record { crnd = r.crnd; cval = r.cval; heard = set r.heard box (record { filled = true; vrnd = m.vrnd; vote = m.vote }) }
 
-unfoldable pub hear_of : CoordinatorRow → ℕ → OneB → Hearing
+unfoldable pub hear_of : CoordinatorRow → ℕ → OneB → Noted CoordinatorRow
 hear_of r box m =
     cond (eqb (hear_refusal r box m) granted) (record { refusal = granted; row = hear_row r box m }) (record { refusal = hear_refusal r box m; row = r })
 
@@ -105,7 +103,7 @@ open_refusal s agent r =
 unfoldable pub open_row : CoordinatorRow → Page → CoordinatorRow
 open_row r page = record { crnd = r.crnd; cval = some page; heard = r.heard }
 
-unfoldable pub open_of : Setup → ℕ → CoordinatorRow → Opened
+unfoldable pub open_of : Setup → ℕ → CoordinatorRow → Answer CoordinatorRow TwoS
 open_of s agent r =
     cond (eqb (open_refusal s agent r) granted)
     (record { refusal = granted; row = open_row r (open_page s r); sent = record { round = r.crnd; page = open_page s r } })

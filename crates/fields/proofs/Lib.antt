@@ -2,5 +2,4 @@ pub mod Cuts
 pub mod Lawful
 pub mod Times
 pub mod Fitted
-pub mod Joined
 pub mod Unique

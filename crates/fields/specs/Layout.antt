@@ -1,4 +1,4 @@
--- The fields of document 01, 'Blocks'. C-14's wider readings are another `reading_as` here and nothing else.
+-- The fields of document 01, 'Blocks'. C-14's wider readings are another `reading` here and nothing else.
 use Rattle.std.specs.Prelude.{ℕ, eqb, leb, Bool, true, false, cond, ◌&&◌, List, []}
 use Rattle.pages.specs.declared.line.Reading
 use Rattle.pages.specs.declared.line.Mark.{Mark}

@@ -1,2 +1,3 @@
 pub mod Codecs
 pub mod Layout
+pub mod Sizes

@@ -1,54 +1,98 @@
-// Flags, rounds and readings.
-ghost use Rattle.std.specs.Prelude.{◌≡◌, cond, ◌+◌, ◌≤◌, length};
-ghost use Rattle.words.specs.Bytes.{Spliced};
+// Flags, counts, rounds and readings.
+ghost use Rattle.std.specs.Prelude.{refl};
+ghost use Rattle.fields.specs.Codecs.{two_bytes};
 ghost use Rattle.fields.specs.Layout.{flag, round, reading};
 
+use crate::field::{Field, Read};
 use pages::Reading;
 use rounds::{Number, Round};
 
-fn flag_byte(value: bool) -> u8
-    ensures { result ≡ cond value 1 0 }
-{
-    if value { 1 } else { 0 }
-}
+impl Field for bool {
+    ghost codec = { flag };
 
-pub fn put_flag(bytes: &mut [u8], at: usize, value: bool)
-    requires { at + 1 ≤ length bytes.old }
-    ensures { Spliced at (flag.put value) bytes.old bytes.new }
-{
-    words::put_u8(bytes, at, flag_byte(value));
-}
+    ghost SIZE = { 1 };
 
-pub fn read_round(bytes: &[u8], at: usize) -> Round
-    requires { at + 4 ≤ length bytes.now }
-    ensures { result ≡ round.get bytes.now at }
-{
-    Round {
-        n: Number(words::get_u16(bytes, at)),
-        c: bytes[at + 2],
-        cf: bytes[at + 2 + 1],
+    ghost size_is = { refl };
+
+    const SIZE: usize = 1;
+
+    fn read(bytes: &[u8], at: usize) -> Read<bool> {
+        Read {
+            value: bytes[at] == 1,
+            exact: bytes[at] <= 1,
+        }
+    }
+
+    fn put(self, bytes: &mut [u8], at: usize) {
+        words::put_u8(bytes, at, u8::from(self));
     }
 }
 
-pub fn put_round(bytes: &mut [u8], at: usize, value: Round)
-    requires { at + 4 ≤ length bytes.old }
-    ensures { Spliced at (round.put value) bytes.old bytes.new }
-{
-    words::put_u16(bytes, at, value.n.0);
-    words::put_u8(bytes, at + 2, value.c);
-    words::put_u8(bytes, at + 2 + 1, value.cf);
+impl Field for u16 {
+    ghost codec = { two_bytes };
+
+    ghost SIZE = { 2 };
+
+    ghost size_is = { refl };
+
+    const SIZE: usize = 2;
+
+    fn read(bytes: &[u8], at: usize) -> Read<u16> {
+        Read {
+            value: words::get_u16(bytes, at),
+            exact: true,
+        }
+    }
+
+    fn put(self, bytes: &mut [u8], at: usize) {
+        words::put_u16(bytes, at, self);
+    }
 }
 
-pub fn read_reading(bytes: &[u8], at: usize) -> Reading
-    requires { at + 4 ≤ length bytes.now }
-    ensures { result ≡ reading.get bytes.now at }
-{
-    Reading(words::get_u32(bytes, at))
+impl Field for Reading {
+    ghost codec = { reading };
+
+    ghost SIZE = { 4 };
+
+    ghost size_is = { refl };
+
+    const SIZE: usize = 4;
+
+    fn read(bytes: &[u8], at: usize) -> Read<Reading> {
+        Read {
+            value: Reading(words::get_u32(bytes, at)),
+            exact: true,
+        }
+    }
+
+    fn put(self, bytes: &mut [u8], at: usize) {
+        words::put_u32(bytes, at, self.0);
+    }
 }
 
-pub fn put_reading(bytes: &mut [u8], at: usize, value: Reading)
-    requires { at + 4 ≤ length bytes.old }
-    ensures { Spliced at (reading.put value) bytes.old bytes.new }
-{
-    words::put_u32(bytes, at, value.0);
+impl Field for Round {
+    ghost codec = { round };
+
+    ghost SIZE = { 4 };
+
+    ghost size_is = { refl };
+
+    const SIZE: usize = 4;
+
+    fn read(bytes: &[u8], at: usize) -> Read<Round> {
+        Read {
+            value: Round {
+                n: Number(words::get_u16(bytes, at)),
+                c: bytes[at + 2],
+                cf: bytes[at + 2 + 1],
+            },
+            exact: true,
+        }
+    }
+
+    fn put(self, bytes: &mut [u8], at: usize) {
+        words::put_u16(bytes, at, self.n.0);
+        words::put_u8(bytes, at + 2, self.c);
+        words::put_u8(bytes, at + 2 + 1, self.cf);
+    }
 }

@@ -2,20 +2,16 @@
 //
 // How each stands in bytes is a codec of specs/Layout.antt, joined from numbers. Reading gives the
 // value and whether its bytes are exactly those that writing it gives (a flag 0 or 1, a state 0 to
-// 2, no reading where the state has none). Every function asks that its field lies in the bytes:
-// callers look at a block's length once, and a field's place is a constant. Which fields a kind of
-// block has, and the rules of its record, are no business of this crate.
+// 2, no reading where the state has none). Every field asks that it lies in the bytes: callers look
+// at a block's length once, and a field's place is a constant. Which fields a kind of block has, and
+// the rules of its record, are no business of this crate.
 #![tactic(auto)]
 
+mod array;
 mod basic;
+mod field;
 mod lines;
 mod slots;
 
-pub use basic::{put_flag, put_reading, put_round, read_reading, read_round};
-pub use lines::{
-    LineRead, PageRead, VoteRead, put_line, put_page, put_vote, read_line, read_page, read_vote,
-};
-pub use slots::{
-    BlanksRead, HeardRead, HeldRead, put_blanks, put_heard, put_held, read_blanks, read_heard,
-    read_held,
-};
+pub use array::{Slot, put_all, read_all};
+pub use field::{Field, Read};

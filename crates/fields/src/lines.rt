@@ -1,70 +1,37 @@
 // Lines, pages and votes.
-ghost use Rattle.std.specs.Prelude.{◌≡◌, ◌+◌, ◌≤◌, length};
-ghost use Rattle.words.specs.Bytes.{Spliced};
-ghost use Rattle.fields.specs.Codecs.{Got};
-ghost use Rattle.fields.specs.Layout.{is_no_reading, state_of, payload_of, line_of, line_exact, line_as, page, vote};
+ghost use Rattle.std.specs.Prelude.{◌≡◌, refl};
+ghost use Rattle.pages.specs.declared.line.Mark.TheVariants.{Absent};
+ghost use Rattle.pages.specs.Pages.{line};
+ghost use Rattle.fields.specs.Layout.{state_of, payload_of, line_of, line_exact, line_as, page, vote};
 
-use crate::basic::{put_flag, put_reading, read_reading};
-use below::both;
+use crate::array::{Slot, put_all, read_all};
+use crate::field::{Field, Read};
 use pages::{Line, Mark, Page, RACKS, Reading, Vote};
-
-// The bytes of a line.
-const LINE: usize = 5;
-
-#[derive(Clone, Copy)]
-pub struct LineRead {
-    pub value: Line,
-    pub exact: bool,
-}
-
-#[derive(Clone, Copy)]
-pub struct PageRead {
-    pub value: Page,
-    pub exact: bool,
-}
-
-#[derive(Clone, Copy)]
-pub struct VoteRead {
-    pub value: Vote,
-    pub exact: bool,
-}
-
-fn is_no_reading(value: Reading) -> bool
-    ensures { result ≡ is_no_reading value }
-{
-    value.0 == 0
-}
 
 fn line_of(state: u8, value: Reading) -> Line
     ensures { result ≡ line_of state value }
 {
-    if state == 2 {
-        return Line {
-            mark: Mark::Reading(value),
-        };
-    }
-    if state == 1 {
-        Line { mark: Mark::Nil }
-    } else {
-        Line { mark: Mark::Absent }
+    match state {
+        1 => Line::NIL,
+        2 => Line::of(value),
+        _ => Line::ABSENT,
     }
 }
 
 fn line_exact(state: u8, value: Reading) -> bool
     ensures { result ≡ line_exact state value }
 {
-    if state == 2 {
-        true
-    } else {
-        both(state <= 1, is_no_reading(value))
+    match state {
+        0 | 1 => value.0 == 0,
+        2 => true,
+        _ => false,
     }
 }
 
 fn state_of(value: Line) -> u8
     ensures { result ≡ state_of value.mark }
 {
-    let mark = value.mark;
-    match mark {
+    match value.mark {
         Mark::Absent => 0,
         Mark::Nil => 1,
         Mark::Reading(_) => 2,
@@ -74,79 +41,90 @@ fn state_of(value: Line) -> u8
 fn payload_of(value: Line) -> Reading
     ensures { result ≡ payload_of value.mark }
 {
-    let mark = value.mark;
-    match mark {
-        Mark::Absent => Reading(0),
-        Mark::Nil => Reading(0),
+    match value.mark {
         Mark::Reading(reading) => reading,
+        _ => Reading(0),
     }
 }
 
-pub fn read_line(bytes: &[u8], at: usize) -> LineRead
-    requires { at + 5 ≤ length bytes.now }
-    ensures { Got line_as bytes.now at result.value result.exact }
-{
-    let state = bytes[at];
-    let reading = read_reading(bytes, at + 1);
-    LineRead {
-        value: line_of(state, reading),
-        exact: line_exact(state, reading),
+impl Field for Line {
+    ghost codec = { line_as };
+
+    ghost SIZE = { 5 };
+
+    ghost size_is = { refl };
+
+    const SIZE: usize = 1 + Reading::SIZE;
+
+    fn read(bytes: &[u8], at: usize) -> Read<Line> {
+        let state = bytes[at];
+        let reading = Reading::read(bytes, at + 1).value;
+        Read {
+            value: line_of(state, reading),
+            exact: line_exact(state, reading),
+        }
+    }
+
+    fn put(self, bytes: &mut [u8], at: usize) {
+        words::put_u8(bytes, at, state_of(self));
+        payload_of(self).put(bytes, at + 1);
     }
 }
 
-pub fn put_line(bytes: &mut [u8], at: usize, value: Line)
-    requires { at + 5 ≤ length bytes.old }
-    ensures { Spliced at (line_as.put value) bytes.old bytes.new }
-{
-    words::put_u8(bytes, at, state_of(value));
-    put_reading(bytes, at + 1, payload_of(value));
+impl Slot for Line {
+    ghost past = { line Absent };
+
+    ghost long = { λ v. refl };
+
+    const EMPTY: Line = Line::ABSENT;
 }
 
-pub fn read_page(bytes: &[u8], at: usize) -> PageRead
-    requires { at + 40 ≤ length bytes.now }
-    ensures { Got page bytes.now at result.value result.exact }
-{
-    let mut value = Page::EMPTY;
-    let mut exact = true;
-    for k in 0..RACKS {
-        let read = read_line(bytes, at + LINE * k);
-        let line = read.value;
-        value.lines[k] = line;
-        exact = both(exact, read.exact);
+impl Field for Page {
+    ghost codec = { page };
+
+    ghost SIZE = { 40 };
+
+    ghost size_is = { refl };
+
+    const SIZE: usize = RACKS * Line::SIZE;
+
+    fn read(bytes: &[u8], at: usize) -> Read<Page> {
+        let read = read_all::<Line, RACKS>(bytes, at);
+        let lines = read.value;
+        Read {
+            value: Page { lines },
+            exact: read.exact,
+        }
     }
-    PageRead { value, exact }
-}
 
-pub fn put_page(bytes: &mut [u8], at: usize, value: Page)
-    requires { at + 40 ≤ length bytes.old }
-    ensures { Spliced at (page.put value) bytes.old bytes.new }
-{
-    for k in 0..RACKS {
-        put_line(bytes, at + LINE * k, value.lines[k]);
-    }
-}
-
-pub fn read_vote(bytes: &[u8], at: usize) -> VoteRead
-    requires { at + 41 ≤ length bytes.now }
-    ensures { Got vote bytes.now at result.value result.exact }
-{
-    let flag = bytes[at];
-    let read = read_page(bytes, at + 1);
-    let page = read.value;
-    VoteRead {
-        value: Vote {
-            some: flag == 1,
-            page,
-        },
-        exact: both(flag <= 1, read.exact),
+    fn put(self, bytes: &mut [u8], at: usize) {
+        put_all::<Line, RACKS>(self.lines, bytes, at);
     }
 }
 
-pub fn put_vote(bytes: &mut [u8], at: usize, value: Vote)
-    requires { at + 41 ≤ length bytes.old }
-    ensures { Spliced at (vote.put value) bytes.old bytes.new }
-{
-    let page = value.page;
-    put_flag(bytes, at, value.some);
-    put_page(bytes, at + 1, page);
+impl Field for Vote {
+    ghost codec = { vote };
+
+    ghost SIZE = { 41 };
+
+    ghost size_is = { refl };
+
+    const SIZE: usize = bool::SIZE + Page::SIZE;
+
+    fn read(bytes: &[u8], at: usize) -> Read<Vote> {
+        let some = bool::read(bytes, at);
+        let page = Page::read(bytes, at + bool::SIZE);
+        Read {
+            value: Vote {
+                some: some.value,
+                page: page.value,
+            },
+            exact: some.exact & page.exact,
+        }
+    }
+
+    fn put(self, bytes: &mut [u8], at: usize) {
+        self.some.put(bytes, at);
+        self.page.put(bytes, at + bool::SIZE);
+    }
 }

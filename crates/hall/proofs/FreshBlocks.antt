@@ -1,6 +1,5 @@
--- The block at each place of a fresh hall, by the ways through the code, and their lengths.
-use Rattle.std.proofs.Common.{ℕ, ◌+◌, ◌*◌, ◌-◌, ◌≤◌, ◌<◌, le_antisymm, add-one, arith, ltb, length, drop, length-append, length-drop, drop_of_length-le, take_at, drop-drop, lt-ltb, le-ltb, ◌≡◌, sym, ap, ◌∙◌, Bool, true, false, cond, List, ◌++◌, append_assoc, append-nil}
-use Rattle.std.proofs.Math.Arith.{lt-one}
+-- The blocks of a fresh hall have their length, and the loop of setup writes one after the other.
+use Rattle.std.proofs.Common.{ℕ, ◌+◌, ◌*◌, ◌-◌, ◌≤◌, ◌<◌, le_antisymm, add-one, arith, ltb, length, drop, length-append, length-drop, drop_of_length-le, take_at, drop-drop, ◌≡◌, sym, ap, ◌∙◌, Bool, true, false, cond, List, ◌++◌, append_assoc, append-nil}
 use Rattle.std.proofs.Math.ListN.{length-replicate}
 use Rattle.std.proofs.Math.Seq.{drop-append-add}
 use borrow.Rule.Slice.PartMut.{put_mid, Post-is}
@@ -9,36 +8,12 @@ use Rattle.words.specs.Bytes.{zeros}
 use Rattle.fields.specs.Codecs.{run}
 use Rattle.fields.proofs.Times.{length_run}
 use Rattle.blocks.specs.Kinds.{Kind, encode}
-use Rattle.blocks.proofs.Judged.{Proper, encode-length}
-use Rattle.row_blocks.proofs.Propers.{HeadFits, CoordinatorFits, BoxFits, RackFits, ReaderFits, head_proper, coordinator_proper, box_proper, rack_proper, reader_proper}
+use Rattle.blocks.specs.Proper.{Proper}
+use Rattle.blocks.proofs.Judged.{encode-length}
+use Rattle.blocks.specs.RowPropers.{HeadFits, CoordinatorFits, BoxFits, RackFits, ReaderFits, head_proper, coordinator_proper, box_proper, rack_proper, reader_proper}
 use Rattle.blocks.specs.Frame.{block_size}
-use Rattle.row_blocks.specs.Rows.{head, coordinator, box, rack, reader}
-use Rattle.hall.specs.Halls.{blocks_of_hall, hall_size, row_or_zero, fresh_coordinator, fresh_box, fresh_rack, fresh_reader, fresh_block, fresh_hall}
-
-module _ (instance : ℕ) (s : Setup) (place : ℕ) {after : List ℕ} where
-  pub at_head : place < 1 → after ≡ row_or_zero head instance s 0 (record { count = 0 }) → after ≡ fresh_block instance s place
-  unfolding fresh_block
-  at_head h e = e ∙ rw (lt-one h)
-
-  pub at_coordinator : 1 ≤ place → place < 5 → after ≡ row_or_zero coordinator instance s (place - 1) (fresh_coordinator s (place - 1)) → after ≡ fresh_block instance s place
-  unfolding fresh_block
-  at_coordinator a b e = rw (le-ltb place 1 a, lt-ltb place 5 b) e
-
-  pub at_box : 1 ≤ place → 5 ≤ place → place < 10 → after ≡ row_or_zero box instance s (place - 5) (fresh_box s) → after ≡ fresh_block instance s place
-  unfolding fresh_block
-  at_box a b c e = rw (le-ltb place 1 a, le-ltb place 5 b, lt-ltb place 10 c) e
-
-  pub at_rack : 1 ≤ place → 5 ≤ place → 10 ≤ place → place < 18 → after ≡ row_or_zero rack instance s (place - 10) (fresh_rack s) → after ≡ fresh_block instance s place
-  unfolding fresh_block
-  at_rack a b c d e = rw (le-ltb place 1 a, le-ltb place 5 b, le-ltb place 10 c, lt-ltb place 18 d) e
-
-  pub at_reader : 1 ≤ place → 5 ≤ place → 10 ≤ place → 18 ≤ place → place < 22 → after ≡ row_or_zero reader instance s (place - 18) fresh_reader → after ≡ fresh_block instance s place
-  unfolding fresh_block
-  at_reader a b c d f e = rw (le-ltb place 1 a, le-ltb place 5 b, le-ltb place 10 c, le-ltb place 18 d, lt-ltb place 22 f) e
-
-  pub at_message : 1 ≤ place → 5 ≤ place → 10 ≤ place → 18 ≤ place → 22 ≤ place → after ≡ zeros block_size → after ≡ fresh_block instance s place
-  unfolding fresh_block
-  at_message a b c d f e = rw (le-ltb place 1 a, le-ltb place 5 b, le-ltb place 10 c, le-ltb place 18 d, le-ltb place 22 f) e
+use Rattle.blocks.specs.Rows.{head, coordinator, box, rack, reader}
+use Rattle.hall.specs.Halls.{blocks_of_hall, hall_size, row_or_zero, fresh_block, fresh_hall}
 
 -- every block of a fresh hall has its length
 either_long : (n : ℕ) (b : Bool) (x y : List ℕ) → length x ≡ n → length y ≡ n → length (cond b x y) ≡ n

@@ -16,7 +16,7 @@ use Rattle.words.specs.Bytes.{zeros}
 use Rattle.fields.specs.Codecs.{run}
 use Rattle.blocks.specs.Frame.{block_size}
 use Rattle.blocks.specs.Kinds.{Kind, encode}
-use Rattle.row_blocks.specs.Rows.{head, coordinator, box, rack, reader}
+use Rattle.blocks.specs.Rows.{head, coordinator, box, rack, reader}
 
 -- how many blocks, and where each sort begins
 abbrev pub blocks_of_hall : ℕ

@@ -9,7 +9,7 @@ use Rattle.records.specs.declared.stamp.Stamp.{Stamp}
 use Rattle.words.specs.Bytes.{splice}
 use Rattle.blocks.specs.Frame.{block_size}
 use Rattle.blocks.specs.Kinds.{encode, decode, good}
-use Rattle.row_blocks.specs.Rows.{head}
+use Rattle.blocks.specs.Rows.{head}
 use Rattle.acts.specs.declared.step.Step.{Step}
 use Rattle.acts.specs.Acts.{Act}
 use Rattle.acts.specs.Named.{names, own_act, named_refusal}

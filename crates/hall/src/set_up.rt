@@ -1,10 +1,11 @@
 // Setup: a lent hall is written anew, block by block.
 ghost use Rattle.std.specs.Prelude.{◌≡◌, length};
+ghost use Rattle.below.specs.Refusals.{number_of};
 ghost use Rattle.rounds.specs.Setups.{setup_of};
 ghost use Rattle.hall.specs.Halls.{hall_size, fresh_hall, Sets};
 
 use crate::fresh::fresh_block;
-use below::both;
+use below::Refusal;
 use blocks::BLOCK;
 use rounds::{Instance, Setup};
 
@@ -13,10 +14,7 @@ pub const BLOCKS: usize = 118;
 
 pub const HALL: usize = 60416;
 
-const WRONG_LENGTH: u32 = 1;
-
-const OUT_OF_RANGE: u32 = 11;
-
+// A block goes by its place, which says what it is a block of.
 fn fill(hall: &mut [u8], instance: Instance, setup: Setup)
     requires { length hall.old ≡ hall_size }
     ensures { hall.new ≡ fresh_hall instance.0 setup }
@@ -28,7 +26,10 @@ fn fill(hall: &mut [u8], instance: Instance, setup: Setup)
     }
 }
 
-// Any lent bytes and any numbers: 1 for another length, 11 out of range, else all blocks are written.
+// Any lent bytes and any numbers: 1 for another length, 11 out of range, else all blocks are written. The
+// numbers come one by one, as C gives them. Both tests are worked out, `&`, so that what they say is
+// known in one piece where the numbers are narrowed.
+#[tactic(auto, unfolding(crate::specs::Halls::setup_refusal, crate::specs::Halls::setup_after))]
 pub fn setup(
     hall: &mut [u8],
     instance: u32,
@@ -38,16 +39,13 @@ pub fn setup(
     readers: u32,
     c0: u32,
     cf0: u32,
-) -> u32
-    ensures { Sets hall.old hall.new instance (setup_of racks boxes coordinators readers c0 cf0) result }
+) -> Result<(), Refusal>
+    ensures { Sets hall.old hall.new instance (setup_of racks boxes coordinators readers c0 cf0) (number_of result) }
 {
-    if hall.len() != HALL {
-        return WRONG_LENGTH;
-    }
-    let numbers = Setup::numbers_in_range(racks, boxes, coordinators, readers, c0, cf0);
-    if !both(instance <= Instance::LARGEST as u32, numbers) {
-        return OUT_OF_RANGE;
-    }
+    Refusal::WrongLength.unless(hall.len() == HALL)?;
+    let in_range = (instance <= u32::from(Instance::LARGEST))
+        & Setup::numbers_in_range(racks, boxes, coordinators, readers, c0, cf0);
+    Refusal::OutOfRange.unless(in_range)?;
     let setup = Setup {
         racks: racks as u8,
         boxes: boxes as u8,
@@ -57,5 +55,5 @@ pub fn setup(
         cf0: cf0 as u8,
     };
     fill(hall, Instance(instance as u16), setup);
-    0
+    Ok(())
 }

@@ -6,11 +6,12 @@ use Rattle.rounds.specs.declared.round.Round.{Round}
 use Rattle.records.specs.declared.stamp.Stamp.{Stamp}
 use Rattle.blocks.specs.Frame.{block_size}
 use Rattle.blocks.specs.Kinds.{Kind}
-use Rattle.blocks.proofs.Judged.{Proper, encode-length}
-use Rattle.message_blocks.specs.Messages.{propose, one_a, one_b, two_s, two_a, two_b}
-use Rattle.message_blocks.proofs.Propers.{ProposeFits, propose_proper, OneAFits, one_a_proper, OneBFits, one_b_proper, TwoSFits, two_s_proper, TwoAFits, two_a_proper, TwoBFits, two_b_proper}
-use Rattle.row_blocks.specs.Rows.{coordinator, box, rack, reader}
-use Rattle.row_blocks.proofs.Propers.{CoordinatorFits, coordinator_proper, BoxFits, box_proper, RackFits, rack_proper, ReaderFits, reader_proper}
+use Rattle.blocks.specs.Proper.{Proper}
+use Rattle.blocks.proofs.Judged.{encode-length}
+use Rattle.blocks.specs.Messages.{propose, one_a, one_b, two_s, two_a, two_b}
+use Rattle.blocks.specs.MessagePropers.{ProposeFits, propose_proper, OneAFits, one_a_proper, OneBFits, one_b_proper, TwoSFits, two_s_proper, TwoAFits, two_a_proper, TwoBFits, two_b_proper}
+use Rattle.blocks.specs.Rows.{coordinator, box, rack, reader}
+use Rattle.blocks.specs.RowPropers.{CoordinatorFits, coordinator_proper, BoxFits, box_proper, RackFits, rack_proper, ReaderFits, reader_proper}
 use Rattle.acts.specs.declared.step.Step.{Step}
 use Rattle.acts.specs.Acts.{Act, refused, sending, silent, is_a, act_of, offer_act, start_act, join_act, hear_act, open_act, prepare_act, fast_act, blank_act, take_page_act, take_reading_act, note_vote_act, note_blank_act, learn_act}
 

@@ -1,5 +1,5 @@
 -- A block of the hall as a part of the lent bytes: what it holds, and what the hall holds once it is written.
-use Rattle.std.proofs.Common.{ℕ, ◌+◌, ◌*◌, ◌-◌, ◌<◌, arith, mul_comm, length, take, drop, length-drop, length-take-le, ◌≡◌, ap, ◌∙◌, List, ◌++◌}
+use Rattle.std.proofs.Common.{ℕ, ◌+◌, ◌*◌, ◌-◌, ◌<◌, arith, mul_comm, length, take, drop, ◌≡◌, ap, ◌∙◌, List, ◌++◌}
 use borrow.Rule.Slice.PartMut.{put_mid, Post-is}
 use Rattle.words.specs.Bytes.{splice}
 use Rattle.blocks.specs.Frame.{block_size}
@@ -14,12 +14,6 @@ pub part_is : (hall : List ℕ) (place : ℕ) → take (place * block_size + blo
 unfolding block_at
 part_is hall place =
     ap (λ (n : ℕ). take n (drop (place * block_size) hall)) (width (place * block_size)) ∙ ap (λ (n : ℕ). take block_size (drop n hall)) (mul_comm place block_size)
-
-pub part_size : (hall : List ℕ) (place : ℕ) → length hall ≡ hall_size → place < blocks_of_hall →
-    length (take (place * block_size + block_size - place * block_size) (drop (place * block_size) hall)) ≡ block_size
-part_size hall place long within =
-    ap (λ (n : ℕ). length (take n (drop (place * block_size) hall))) (width (place * block_size)) ∙
-    length-take-le block_size (drop (place * block_size) hall) (simp length-drop (omega arith))
 
 module _ (hall block new : List ℕ) (place : ℕ) (long : length hall ≡ hall_size) (within : place < blocks_of_hall) (size : length block ≡ block_size) where
   -- written by a call

@@ -1,8 +1,8 @@
 -- The hall's step, by the ways through its code.
-use Rattle.std.proofs.Common.{ℕ, ◌+◌, ◌≤◌, ◌<◌, arith, eqb, leb, length, eq-eqb, ne_eqb, ltb-true, leb-true, ◌≡◌, refl, sym, ap, subst, ◌∙◌, Bool, true, false, cond, not, ⊎_elim, List}
-use Rattle.std.proofs.Math.Bool.{false≢true}
+use Rattle.std.proofs.Common.{ℕ, ◌+◌, ◌≤◌, ◌<◌, arith, eqb, leb, length, eq-eqb, ne_eqb, leb-true, ◌≡◌, refl, sym, ap, subst, ◌∙◌, Bool, true, false, cond, List, Result, Ok, Err}
+use Rattle.below.specs.declared.refusals.Refusal.{Refusal}
 use Rattle.below.specs.Refusals.{unless, granted, post_full}
-use Rattle.below.proofs.Tests.{and_left, and_right, or_cases}
+use Rattle.below.proofs.Tests.{and_left, and_right}
 use borrow.Rule.Slice.PartMut.{put_mid}
 use Rattle.rounds.specs.Setups.{setup_in_range}
 use Rattle.records.specs.declared.stamp.Stamp.{Stamp}
@@ -11,8 +11,8 @@ use Rattle.blocks.specs.Frame.{block_size}
 use Rattle.blocks.specs.Kinds.{encode, decode, kept, good}
 use Rattle.blocks.proofs.Judged.{encode-length}
 use Rattle.blocks.proofs.Ranges.{SetupFits, setup_fits, stamp_setup}
-use Rattle.row_blocks.specs.Rows.{head}
-use Rattle.row_blocks.proofs.Propers.{HeadFits, head_proper}
+use Rattle.blocks.specs.Rows.{head}
+use Rattle.blocks.specs.RowPropers.{HeadFits, head_proper}
 use Rattle.acts.specs.declared.step.Step.{Step}
 use Rattle.acts.specs.declared.numbers.Numbers.{Numbers}
 use Rattle.acts.specs.Acts.{Act}
@@ -170,10 +170,16 @@ module _ (hall : List ℕ) (x : Step) where
             zero_is : hall_refusal hall x ≡ granted
             zero_is = past_act ∙ ap (λ (y : Bool). unless y post_full granted) f
 
--- a message that is sent finds room, and where it goes
-pub post_room : (sends : Bool) (count : ℕ) → fits sends count ≡ true → not sends ≡ false → count < most_messages
-post_room sends count f h = ltb-true count most_messages (⊎_elim (λ e. absurd (false≢true (sym h ∙ e))) (λ e. e) (or_cases (not sends) _ f))
+-- what the code's test of a condition says
+pub unless_passed : (b : Bool) (e : Refusal) {u : Unit {0}} {r : Result (Unit {0}) Refusal} → r ≡ cond b (Ok tt) (Err e) → r ≡ Ok u → b ≡ true
+unless_passed true e p q = refl
+unless_passed false e p q = cc
 
+pub unless_failed : (b : Bool) (e f : Refusal) {r : Result (Unit {0}) Refusal} → r ≡ cond b (Ok tt) (Err e) → r ≡ Err f → (b ≡ false) × (f ≡ e)
+unless_failed true e f p q = cc
+unless_failed false e f p q = (refl, cc)
+
+-- a message that is sent finds room, and where it goes
 pub posted_is : (hall sent mid new : List ℕ) (stamp : Stamp) (count : ℕ) → length hall ≡ hall_size → length sent ≡ block_size → count < most_messages → stamp ≡ head_of hall → count ≡ count_of hall →
     mid ≡ put_block (messages_at + count) sent hall → new ≡ encode head stamp (record { count = count + 1 }) → put_mid 0 block_size mid new ≡ posted sent hall
 unfolding posted

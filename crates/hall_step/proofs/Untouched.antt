@@ -5,8 +5,8 @@ use Rattle.below.proofs.Granted.{unless_held, unless_later}
 use Rattle.blocks.specs.Frame.{block_size}
 use Rattle.blocks.specs.Kinds.{encode, good}
 use Rattle.blocks.proofs.Judged.{encode-length}
-use Rattle.row_blocks.specs.Rows.{head}
-use Rattle.row_blocks.proofs.Propers.{HeadFits, head_proper}
+use Rattle.blocks.specs.Rows.{head}
+use Rattle.blocks.specs.RowPropers.{HeadFits, head_proper}
 use Rattle.acts.specs.declared.step.Step.{Step}
 use Rattle.acts.specs.Named.{is_good, stamp_of, same_hall, names, own_act, own_row, named_refusal}
 use Rattle.hall.specs.Halls.{hall_size, blocks_of_hall, messages_at, block_at}

@@ -2,7 +2,7 @@
 use Rattle.std.specs.Prelude.{ℕ, length, ◌≡◌, true, List}
 use Rattle.records.specs.declared.stamp.Stamp.{Stamp}
 use Rattle.blocks.specs.Kinds.{good}
-use Rattle.row_blocks.specs.Rows.{head}
+use Rattle.blocks.specs.Rows.{head}
 use Rattle.acts.specs.declared.step.Step.{Step}
 use Rattle.hall.specs.Halls.{hall_size, block_at}
 use Rattle.hall.specs.Steps.{step_exists, numbers_in_range, head_of, count_of}

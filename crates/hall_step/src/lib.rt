@@ -5,31 +5,20 @@
 // the crate hall, and what a step makes of its blocks is the acts' business.
 #![tactic(auto)]
 
-ghost use Rattle.std.specs.Prelude.{◌<◌, length, true, cond, ◌≡◌};
+ghost use Rattle.std.specs.Prelude.{◌<◌, length, ◌≡◌};
+ghost use Rattle.below.specs.Refusals.{number_of};
 ghost use Rattle.blocks.specs.Frame.{block_size};
+ghost use Rattle.acts.specs.Codes.{code_number};
 ghost use Rattle.hall.specs.Halls.{blocks_of_hall, hall_size};
-ghost use Rattle.hall.specs.Steps.{head_of, count_of, fits, put_block, posted, Steps};
+ghost use Rattle.hall.specs.Steps.{head_of, count_of, most_messages, fits, put_block, posted, Steps};
 ghost use Rattle.hall_step.specs.Reached.{Reached};
 
-use acts::{Step, act};
-use below::either;
-use blocks::BLOCK;
+use acts::{Code, Step, act};
+use below::Refusal;
+use blocks::{BLOCK, put, read};
 use hall::{HALL, MESSAGES_AT};
 use records::{Head, Stamp};
-use row_blocks::{put_head, read_head};
 use step_numbers::{message_place, narrow, numbers_in_range, rows_of, step_exists};
-
-const WRONG_LENGTH: u32 = 1;
-
-const BAD_BLOCK: u32 = 2;
-
-const NO_SUCH_STEP: u32 = 4;
-
-const POST_FULL: u32 = 10;
-
-const OUT_OF_RANGE: u32 = 11;
-
-const MOST_MESSAGES: u16 = 96;
 
 fn put_block(hall: &mut [u8], place: usize, block: &[u8])
     requires { (length hall.old ≡ hall_size) × ((place < blocks_of_hall) × (length block.now ≡ block_size)) }
@@ -40,66 +29,69 @@ fn put_block(hall: &mut [u8], place: usize, block: &[u8])
     hall[at..end].copy_from_slice(block);
 }
 
-// A message that is sent goes to the end of the post: its block, then the count in the head.
-fn post(hall: &mut [u8], stamp: Stamp, count: u16, sends: bool, sent: &[u8])
+// Whether the post has room for what a step sends, if it sends.
+fn fits(sends: bool, count: u16) -> bool
+    ensures { result ≡ fits sends count }
+{
+    !sends || count < Head::MOST
+}
+
+// A message goes to the end of the post: its block, then the count in the head.
+fn post(hall: &mut [u8], stamp: Stamp, count: u16, sent: &[u8])
     requires hall_len { (length hall.old ≡ hall_size) × (length sent.now ≡ block_size) }
     requires stamp_value { (stamp ≡ head_of hall.old) × (count ≡ count_of hall.old) }
-    requires count_value { fits sends count ≡ true }
-    ensures { hall.new ≡ cond sends (posted sent.now hall.old) hall.old }
+    requires room { count < most_messages }
+    ensures { hall.new ≡ posted sent.now hall.old }
 {
-    if !sends {
-        return;
-    }
-    put_block(hall, MESSAGES_AT + count as usize, sent);
+    put_block(hall, MESSAGES_AT + usize::from(count), sent);
     let head = Head { count: count + 1 };
-    put_head(&mut hall[0..BLOCK], stamp, head);
+    put(&mut hall[0..BLOCK], stamp, head);
 }
 
 // There is such a step and its numbers are in range: the blocks that it names.
-fn step_on_blocks(hall: &mut [u8], stamp: Stamp, count: u16, step: Step) -> u32
-    requires { Reached hall.old stamp count step }
-    ensures { Steps hall.old hall.new step result }
+fn step_on_blocks(
+    hall: &mut [u8],
+    stamp: Stamp,
+    count: u16,
+    code: Code,
+    step: Step,
+) -> Result<(), Refusal>
+    requires reached { Reached hall.old stamp count step }
+    requires coded { code_number code ≡ step.code }
+    ensures { Steps hall.old hall.new step (number_of result) }
 {
-    let setup = stamp.setup;
-    let rows = rows_of(setup, step.code);
+    let rows = rows_of(stamp.setup, step.code);
     let place = rows.first + step.agent as usize;
     let at = place * BLOCK;
     let end = at + BLOCK;
     let from = message_place(step.code, step.message) * BLOCK;
     let to = from + BLOCK;
-    let instance = stamp.instance;
-    let agent = step.agent as u8;
     let own = Stamp {
-        instance,
-        setup,
-        agent,
+        agent: step.agent as u8,
+        ..stamp
     };
-    let numbers = narrow(step);
     let mut row = [0u8; BLOCK];
     let mut sent = [0u8; BLOCK];
-    let acted = act(
-        step.code,
-        numbers,
+    let sends = act(
+        code,
+        narrow(step),
         own,
-        0,
+        Ok(()),
         &hall[at..end],
         &hall[from..to],
         &mut row,
         &mut sent,
-    );
-    if acted.refusal != 0 {
-        return acted.refusal as u32;
+    )?;
+    Refusal::PostFull.unless(fits(sends, count))?;
+    if sends {
+        post(hall, stamp, count, &sent);
     }
-    if !either(!acted.sends, count < MOST_MESSAGES) {
-        return POST_FULL;
-    }
-    post(hall, stamp, count, acted.sends, &sent);
     put_block(hall, place, &row);
-    0
+    Ok(())
 }
 
-// Any lent bytes and any numbers: the first refusal that applies, and nothing changes; or 0, and the
-// row, at most one new message and the head are written.
+// Any lent bytes and any numbers: the first refusal that applies, and nothing changes; or the row, at
+// most one new message and the head are written.
 pub fn step(
     hall: &mut [u8],
     code: u32,
@@ -109,19 +101,13 @@ pub fn step(
     c: u32,
     cf: u32,
     reading: u32,
-) -> u32
-    ensures { Steps hall.old hall.new (record { code = code; agent = agent; message = message; n = n; c = c; cf = cf; reading = reading }) result }
+) -> Result<(), Refusal>
+    ensures { Steps hall.old hall.new (record { code = code; agent = agent; message = message; n = n; c = c; cf = cf; reading = reading }) (number_of result) }
 {
-    if hall.len() != HALL {
-        return WRONG_LENGTH;
-    }
-    let read = read_head(&hall[0..BLOCK]);
-    if read.refusal != 0 {
-        return BAD_BLOCK;
-    }
-    let stamp = read.stamp;
-    let count = read.body.count;
-    let setup = stamp.setup;
+    Refusal::WrongLength.unless(hall.len() == HALL)?;
+    let head = read::<Head>(&hall[0..BLOCK])?;
+    let stamp = head.stamp;
+    let count = head.body.count;
     let step = Step {
         code,
         agent,
@@ -131,11 +117,8 @@ pub fn step(
         cf,
         reading,
     };
-    if !step_exists(setup, count, step) {
-        return NO_SUCH_STEP;
-    }
-    if !numbers_in_range(setup, step) {
-        return OUT_OF_RANGE;
-    }
-    step_on_blocks(hall, stamp, count, step)
+    let code = Code::of(code).ok_or(Refusal::NoSuchStep)?;
+    Refusal::NoSuchStep.unless(step_exists(stamp.setup, count, step))?;
+    Refusal::OutOfRange.unless(numbers_in_range(stamp.setup, step))?;
+    step_on_blocks(hall, stamp, count, code, step)
 }

@@ -2,10 +2,10 @@
 use Rattle.std.proofs.Common.{ℕ, ◌≡◌, ap, ◌∙◌, true, List}
 use Rattle.blocks.specs.Kinds.{good}
 use Rattle.blocks.proofs.Theorems.{kind_byte}
-use Rattle.message_blocks.specs.Messages.{propose, one_a, one_b, two_s, two_a, two_b}
-use Rattle.message_blocks.proofs.Propers.{ProposeFits, propose_proper, OneAFits, one_a_proper, OneBFits, one_b_proper, TwoSFits, two_s_proper, TwoAFits, two_a_proper, TwoBFits, two_b_proper}
-use Rattle.row_blocks.specs.Rows.{head, coordinator, box, rack, reader}
-use Rattle.row_blocks.proofs.Propers.{HeadFits, head_proper, CoordinatorFits, coordinator_proper, BoxFits, box_proper, RackFits, rack_proper, ReaderFits, reader_proper}
+use Rattle.blocks.specs.Messages.{propose, one_a, one_b, two_s, two_a, two_b}
+use Rattle.blocks.specs.MessagePropers.{ProposeFits, propose_proper, OneAFits, one_a_proper, OneBFits, one_b_proper, TwoSFits, two_s_proper, TwoAFits, two_a_proper, TwoBFits, two_b_proper}
+use Rattle.blocks.specs.Rows.{head, coordinator, box, rack, reader}
+use Rattle.blocks.specs.RowPropers.{HeadFits, head_proper, CoordinatorFits, coordinator_proper, BoxFits, box_proper, RackFits, rack_proper, ReaderFits, reader_proper}
 use Rattle.kinds.specs.Known.{good_as, known}
 
 pub propose_known : (bytes : List ℕ) → good propose bytes ≡ true → known bytes ≡ true

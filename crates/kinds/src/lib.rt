@@ -1,64 +1,48 @@
 // Which kind a block is of: the one reader that takes a block of any of the eleven kinds.
 //
-// It answers 1 for a wrong length, 2 for a block that is good for no kind, else 0 and the kind's
-// number. The definition, specs/Kinds.antt, names each kind once; that a block is good for at most
-// one of them is a theorem. What a block holds is for the readers of the kinds.
+// It refuses a wrong length, then a block that is good for no kind. The definition, specs/Known.antt,
+// names each kind once; that a block is good for at most one of them is a theorem. What a block holds
+// is for `blocks::read`.
 #![tactic(auto)]
 
-ghost use Rattle.std.specs.Prelude.{◌≡◌, length};
-ghost use Rattle.blocks.specs.Frame.{block_size};
+ghost use Rattle.std.specs.Prelude.{◌≡◌, cond};
+ghost use Rattle.below.specs.Refusals.{number_of};
+ghost use Rattle.blocks.specs.Kinds.{good};
 ghost use Rattle.blocks.specs.Answers.{answer};
-ghost use Rattle.kinds.specs.Known.{good_as, Told};
+ghost use Rattle.kinds.specs.Known.{Told, kind_number};
 
-use blocks::BLOCK;
-use message_blocks::{read_one_a, read_one_b, read_propose, read_two_a, read_two_b, read_two_s};
-use row_blocks::{read_box, read_coordinator, read_head, read_rack, read_reader};
+use below::Refusal;
+use blocks::{BLOCK, Body, Kind, read};
+use records::{
+    BoxRow, CoordinatorRow, Head, OneA, OneB, Propose, RackRow, ReaderRow, TwoA, TwoB, TwoS,
+};
 
-#[derive(Clone, Copy)]
-pub struct KindRead {
-    pub refusal: u8,
-    // 0 where the block is refused.
-    pub kind: u8,
+// The kind of these bodies, where the block is a good one of it.
+fn kind_as<B: Body>(block: &[u8]) -> Result<Kind, Refusal>
+    ensures refused { number_of result ≡ answer block.now (good B.kind block.now) }
+    ensures named { kind_number result ≡ cond (good B.kind block.now) B.kind.number 0 }
+{
+    read::<B>(block)?;
+    Ok(B::KIND)
 }
 
-// The answer of the reader that the kind byte names.
-fn refusal_as(block: &[u8], kind: u8) -> u8
-    requires { length block.now ≡ block_size }
-    ensures { result ≡ answer block.now (good_as kind block.now) }
+// A match on the kind, as document 01 has it, so that a new kind cannot be left out.
+pub fn kind_of(block: &[u8]) -> Result<Kind, Refusal>
+    ensures { Told block.now (number_of result) (kind_number result) }
 {
-    match kind {
-        1 => read_propose(block).refusal,
-        2 => read_one_a(block).refusal,
-        3 => read_one_b(block).refusal,
-        4 => read_two_s(block).refusal,
-        5 => read_two_a(block).refusal,
-        6 => read_two_b(block).refusal,
-        16 => read_head(block).refusal,
-        17 => read_coordinator(block).refusal,
-        18 => read_box(block).refusal,
-        19 => read_rack(block).refusal,
-        20 => read_reader(block).refusal,
-        _ => 2,
-    }
-}
-
-pub fn kind_of(block: &[u8]) -> KindRead
-    ensures { Told block.now result.refusal result.kind }
-{
-    if block.len() != BLOCK {
-        return KindRead {
-            refusal: 1,
-            kind: 0,
-        };
-    }
-    let kind = block[2];
-    let refusal = refusal_as(block, kind);
-    if refusal == 0 {
-        KindRead { refusal, kind }
-    } else {
-        KindRead {
-            refusal: 2,
-            kind: 0,
-        }
+    Refusal::WrongLength.unless(block.len() == BLOCK)?;
+    match Kind::of(block[2]) {
+        Some(Kind::Propose) => kind_as::<Propose>(block),
+        Some(Kind::OneA) => kind_as::<OneA>(block),
+        Some(Kind::OneB) => kind_as::<OneB>(block),
+        Some(Kind::TwoS) => kind_as::<TwoS>(block),
+        Some(Kind::TwoA) => kind_as::<TwoA>(block),
+        Some(Kind::TwoB) => kind_as::<TwoB>(block),
+        Some(Kind::Head) => kind_as::<Head>(block),
+        Some(Kind::Coordinator) => kind_as::<CoordinatorRow>(block),
+        Some(Kind::Box) => kind_as::<BoxRow>(block),
+        Some(Kind::Rack) => kind_as::<RackRow>(block),
+        Some(Kind::Reader) => kind_as::<ReaderRow>(block),
+        None => Err(Refusal::BadBlock),
     }
 }

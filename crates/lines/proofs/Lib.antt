@@ -1,4 +1,3 @@
-pub mod Scanning
 pub mod ScanIsLine
 pub mod Feeding
 pub mod Writing

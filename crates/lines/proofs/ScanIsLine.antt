@@ -1,12 +1,11 @@
 -- The scan finds what the line says: `scan_is_line`, over any split into parts (`feed_parts`).
-use Rattle.std.proofs.Common.{ℕ, suc, ◌+◌, ◌*◌, ◌-◌, ◌^◌, ◌≤◌, arith, add-zero, mul_assoc, mul_left_comm, add-mul, le-mul_of_pos_right, add-one, leb, ltb, eqb, length, drop, set, replicate, ltb-true, ltb-false, leb-true, leb-false, eqb-true, eq-eqb, ne_eqb, lt-ltb, ◌≡◌, refl, sym, ap, subst, ◌∙◌, Bool, true, false, not, cond, ◌&&◌, ◌||◌, true≢false, List, [], ◌∷◌, ◌++◌, map, append-nil}
+use Rattle.std.proofs.Common.{ℕ, suc, ◌+◌, ◌*◌, ◌-◌, ◌^◌, ◌≤◌, arith, add-zero, mul_assoc, mul_left_comm, add-mul, le-mul_of_pos_right, add-one, leb, ltb, eqb, length, drop, set, replicate, ltb-true, ltb-false, leb-true, leb-false, eqb-true, eq-eqb, ne_eqb, lt-ltb, ◌≡◌, refl, sym, ap, subst, ◌∙◌, Bool, true, false, not, cond, ◌&&◌, ◌||◌, true≢false, Option, List, [], ◌∷◌, ◌++◌, map, append-nil}
 use Rattle.std.proofs.Math.Nat.{pow-succ', pow-le-pow_right}
 use Rattle.std.proofs.Math.ListN.{length-map}
 use Rattle.std.proofs.Math.Seq.{sets, sets-eq}
 use borrow.Author.Tests.{lt-leb}
 use Rattle.below.proofs.Tests.{and_left, and_right, and_false_left, and_false_right, or_true_right, same_yes}
 use Rattle.lines.specs.declared.scan.Scan.{Scan}
-use Rattle.lines.specs.declared.scan.NumbersRead.{NumbersRead}
 use Rattle.lines.specs.Fields.{space, fields_of_line, largest, every, in_front, fields_of, is_digit, value_of, is_decimal, is_readable, answer_of, numbers_of}
 use Rattle.lines.specs.Scans.{start, field_reads, with_digit, spoiled, end_field, feed_of, finish_of, feed_all}
 
@@ -71,7 +70,7 @@ unfoldable ok_from : Scan → List ℕ → List (List ℕ) → Bool
 ok_from s f rest =
     ((s.digits || ltb 0 (length f)) && (every is_digit f && leb (whole s.value f) largest)) && (eqb (s.ended + length rest) 6 && every is_decimal rest)
 
-unfoldable from : Scan → List (List ℕ) → NumbersRead
+unfoldable from : Scan → List (List ℕ) → Option (List ℕ)
 from s [] = answer_of false []
 from s (f ∷ rest) = answer_of (ok_from s f rest) (sets s.numbers s.ended (whole s.value f ∷ map value_of rest))
 

@@ -1,15 +1,21 @@
 -- Text put at a place: two texts in a row, the digits of a number, and that the room is enough.
-use Rattle.std.proofs.Common.{ℕ, zero, suc, ◌+◌, ◌-◌, ◌/◌, ◌%◌, ◌^◌, ◌≤◌, ◌<◌, arith, leb, ltb, length, length-append, leb-true, le-leb, lt-ltb, le-ltb, ◌≡◌, refl, sym, ap, subst, ◌∙◌, Bool, true, false, cond, List, [], ◌∷◌, ◌++◌}
+use Rattle.std.proofs.Common.{ℕ, zero, suc, ◌+◌, ◌-◌, ◌/◌, ◌%◌, ◌^◌, ◌≤◌, ◌<◌, arith, ltb, length, length-append, le-leb, lt-ltb, le-ltb, ◌≡◌, refl, sym, ap, subst, ◌∙◌, Bool, true, false, cond, List, [], ◌∷◌, ◌++◌}
 use Rattle.std.proofs.Math.Nat.{pow-succ'}
-use borrow.Author.Tests.{lt-leb}
-use Rattle.below.proofs.Tests.{same_yes}
-use Rattle.pages.specs.declared.line.Reading
+use borrow.Rule.Slice.PartMut.{put_mid, Post-is}
 use Rattle.pages.specs.declared.line.Mark.{Mark}
 use Rattle.pages.specs.declared.line.Mark.TheVariants.{Absent, Nil, Reading as reads}
 use Rattle.words.specs.Bytes.{splice}
-use Rattle.words.proofs.Splices.{next}
+use Rattle.words.proofs.Splices.{next, length-splice}
 use Rattle.lines.specs.Fields.{space, line_feed}
 use Rattle.lines.specs.Texts.{decimal_by, decimal, field_text, answer_text, mark_text, page_line_text, answer_room, page_line_room, Put, PutIn}
+
+-- a text written over a part
+pub text_put : (at : ℕ) (text old : List ℕ) {new : List ℕ} → at + length text ≤ length old → new ≡ text →
+    Put at text old (put_mid at (at + length text - at) old new) (at + length text)
+unfolding splice
+text_put at text old l e =
+    let is : put_mid at (at + length text - at) old _ ≡ splice at text old = rw (Post-is at (at + length text) old (omega arith), e) in
+    record { spliced = record { is = is; kept = ap length is ∙ length-splice at text old l }; ends = refl }
 
 -- two texts in a row
 pub put_next : {at there end : ℕ} {a b old mid after : List ℕ} → at + length a ≤ length old → Put at a old mid there → Put there b mid after end →
@@ -71,15 +77,6 @@ mark_short Absent = omega arith
 mark_short Nil = omega arith
 mark_short (reads r) = decimal_short r.0
 
-pub put_absent : {at next : ℕ} {m : Mark} {old after : List ℕ} → m ≡ Absent → Put at (45 ∷ []) old after next → Put at (mark_text m) old after next
-put_absent e p = rw e p
-
-pub put_blank : {at next : ℕ} {m : Mark} {old after : List ℕ} → m ≡ Nil → Put at (110 ∷ (105 ∷ (108 ∷ []))) old after next → Put at (mark_text m) old after next
-put_blank e p = rw e p
-
-pub put_reading : {at next : ℕ} {m : Mark} {r : Reading.Reading} {old after : List ℕ} → m ≡ reads r → Put at (decimal r.0) old after next → Put at (mark_text m) old after next
-put_reading e p = rw e p
-
 -- a whole line, part by part
 pub answer_put : (refusal count : ℕ) {at second end next : ℕ} {old a b after : List ℕ} → at + answer_room ≤ length old → Put at (field_text refusal) old a second →
     Put second (decimal count) a b end → Put end (line_feed ∷ []) b after next → Put at (answer_text refusal count) old after next
@@ -102,17 +99,6 @@ page_line_put reader rack mark {at} {old = old} l p q r s t =
     first : List ℕ
     first = (76 ∷ (space ∷ [])) ++ field_text reader
 
--- a line of output where there is room, and where there is none
-pub room_enough : (room at : ℕ) (old : List ℕ) {r : Bool} → r ≡ leb (at + room) (length old) → r ≡ true → at + room ≤ length old
-room_enough room at old tested h = leb-true (at + room) (length old) (sym tested ∙ h)
-
-module _ (room at : ℕ) (text old : List ℕ) {r : Bool} (tested : r ≡ leb (at + room) (length old)) where
-  pub put_in : {after : List ℕ} {next : ℕ} → r ≡ true → Put at text old after next → PutIn room at text old after next
-  put_in h p = record { left = rw (← tested, h) p.spliced.is; ends = rw (← tested, h) p.ends; kept = p.spliced.kept }
-
-  pub put_none : r ≡ false → PutIn room at text old old at
-  put_none h = record { left = rw (← tested, h); ends = rw (← tested, h); kept = refl }
-
 -- a caller that knows of the room
 pub put_with_room : {room at next : ℕ} {text old after : List ℕ} → at + room ≤ length old → PutIn room at text old after next → Put at text old after next
 put_with_room {room} {at} {next} {text} {old} {after} l p =
@@ -132,11 +118,3 @@ answer_short refusal count =
 pub page_line_short : (reader rack : ℕ) (mark : Mark) → length (page_line_text reader rack mark) ≤ page_line_room
 unfolding page_line_text
 page_line_short reader rack mark = simp length-append (omega (arith, decimal_short reader, decimal_short rack, mark_short mark))
-
--- the test for room
-pub room_past : {at n : ℕ} (room : ℕ) → n < at → false ≡ leb (at + room) n
-room_past {at} {n} room l = sym (lt-leb (at + room) n (omega arith))
-
-pub room_left : {at n : ℕ} (room : ℕ) → at ≤ n → leb room (n - at) ≡ leb (at + room) n
-room_left {at} {n} room l =
-    same_yes _ _ (λ h. le-leb (at + room) n (omega (arith, leb-true room (n - at) h))) (λ h. le-leb room (n - at) (omega (arith, leb-true (at + room) n h)))

@@ -1,6 +1,5 @@
 -- What a line of a rehearsal says (document 01, 'Rehearsal'): seven decimals up to 4,294,967,295, one space between fields.
-use Rattle.std.specs.Prelude.{ℕ, ◌+◌, ◌*◌, ◌-◌, ◌^◌, leb, ltb, eqb, length, replicate, Bool, true, false, cond, ◌&&◌, List, [], ◌∷◌, map}
-use Rattle.lines.specs.declared.scan.NumbersRead.{NumbersRead}
+use Rattle.std.specs.Prelude.{ℕ, ◌+◌, ◌*◌, ◌-◌, ◌^◌, leb, ltb, eqb, length, Bool, true, false, cond, ◌&&◌, Option, Some, None, List, [], ◌∷◌, map}
 
 abbrev pub space : ℕ
 space = 32
@@ -51,9 +50,9 @@ abbrev pub is_readable : List (List ℕ) → Bool
 is_readable fields = eqb (length fields) fields_of_line && every is_decimal fields
 
 -- the seven numbers, or that it isn't seven decimals
-abbrev pub answer_of : Bool → List ℕ → NumbersRead
-answer_of true numbers = record { readable = true; numbers = numbers }
-answer_of false numbers = record { readable = false; numbers = replicate fields_of_line 0 }
+abbrev pub answer_of : Bool → List ℕ → Option (List ℕ)
+answer_of true numbers = Some numbers
+answer_of false numbers = None
 
-unfoldable pub numbers_of : List ℕ → NumbersRead
+unfoldable pub numbers_of : List ℕ → Option (List ℕ)
 numbers_of line = answer_of (is_readable (fields_of line)) (map value_of (fields_of line))

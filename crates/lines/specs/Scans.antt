@@ -1,7 +1,6 @@
 -- The scan, which takes a line byte by byte. That it finds what the line says is `scan_is_line` (proofs/ScanIsLine.antt).
-use Rattle.std.specs.Prelude.{ℕ, ◌+◌, ◌*◌, ◌-◌, leb, ltb, eqb, length, drop, replicate, set, ◌≡◌, Bool, true, false, cond, not, ◌&&◌, List, [], ◌∷◌}
+use Rattle.std.specs.Prelude.{ℕ, ◌+◌, ◌*◌, ◌-◌, leb, ltb, eqb, length, drop, replicate, set, ◌≡◌, Bool, true, false, cond, not, ◌&&◌, Option, List, [], ◌∷◌}
 use Rattle.lines.specs.declared.scan.Scan.{Scan}
-use Rattle.lines.specs.declared.scan.NumbersRead.{NumbersRead}
 use Rattle.lines.specs.Fields.{space, before_lf, fields_of_line, largest, is_digit, answer_of}
 
 abbrev pub start : Scan
@@ -38,5 +37,5 @@ pub record FedOn (s : Scan) (bytes : List ℕ) (from : ℕ) (scan : Scan) (to : 
   pub scanned : scan ≡ feed_all s (before_lf (drop from bytes))
   pub stopped : to ≡ from + length (before_lf (drop from bytes))
 
-unfoldable pub finish_of : Scan → NumbersRead
+unfoldable pub finish_of : Scan → Option (List ℕ)
 finish_of s = answer_of (eqb s.ended 6 && field_reads s && not s.bad) (set s.numbers 6 s.value)

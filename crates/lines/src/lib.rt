@@ -9,5 +9,5 @@
 mod scan;
 mod text;
 
-pub use scan::{FIELDS, Fed, LARGEST, NumbersRead, Scan};
+pub use scan::{FIELDS, Fed, LARGEST, Scan};
 pub use text::{ANSWER_ROOM, PAGE_LINE_ROOM, put_answer, put_page_line, put_unreadable};

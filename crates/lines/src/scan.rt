@@ -2,26 +2,17 @@
 ghost use Rattle.std.specs.Prelude.{◌≡◌};
 ghost use Rattle.lines.specs.Scans.{with_digit, end_field, spoiled, feed_of, field_reads, finish_of, FedOn};
 
-use below::both;
-
 // One space stands between fields, and a line has seven.
 pub const FIELDS: usize = 7;
 
-const LAST: usize = 6;
+const LAST: usize = FIELDS - 1;
 
 pub const LARGEST: u64 = 4294967295;
 
-const SPACE: u8 = 32;
-
-const LF: u8 = 10;
-
-const ZERO: u8 = 48;
-
-const NINE: u8 = 57;
-
 // What has been read of a line: the numbers of the fields that a space has ended, and how many; the
 // open field's value, which stays where it is once it is too large, and whether it has a digit;
-// whether anything stood on the line that no seven decimals have.
+// whether anything stood on the line that no seven decimals have. The specs speak of these fields, so
+// the numbers and their count stay two.
 #[derive(Clone, Copy)]
 pub struct Scan {
     pub numbers: [u32; FIELDS],
@@ -31,24 +22,11 @@ pub struct Scan {
     pub bad: bool,
 }
 
-// A line's seven numbers, all zero where it is not seven decimals.
-#[derive(Clone, Copy)]
-pub struct NumbersRead {
-    pub readable: bool,
-    pub numbers: [u32; FIELDS],
-}
-
 // The scan after a part of a line, and the place where that ends.
 #[derive(Clone, Copy)]
 pub struct Fed {
     pub scan: Scan,
     pub to: usize,
-}
-
-fn wide(digit: u8) -> u64
-    ensures { result ≡ digit }
-{
-    digit as u64
 }
 
 impl Scan {
@@ -63,9 +41,8 @@ impl Scan {
     fn with_digit(mut self, digit: u8) -> Scan
         ensures { result ≡ with_digit self digit }
     {
-        let value = self.value;
-        if value <= LARGEST {
-            self.value = 10 * value + wide(digit);
+        if self.value <= LARGEST {
+            self.value = 10 * self.value + u64::from(digit);
         }
         self.digits = true;
         self
@@ -74,7 +51,7 @@ impl Scan {
     fn field_reads(self) -> bool
         ensures { result ≡ field_reads self }
     {
-        both(self.digits, self.value <= LARGEST)
+        self.digits && self.value <= LARGEST
     }
 
     fn spoil(mut self) -> Scan
@@ -84,14 +61,13 @@ impl Scan {
         self
     }
 
+    #[tactic(auto, unfolding(crate::specs::Scans::end_field))]
     fn end_field(mut self) -> Scan
         ensures { result ≡ end_field self }
     {
-        let at = self.ended;
-        let value = self.value;
-        if both(self.field_reads(), at < LAST) {
-            self.numbers[at] = value as u32;
-            self.ended = at + 1;
+        if self.field_reads() && self.ended < LAST {
+            self.numbers[self.ended] = self.value as u32;
+            self.ended += 1;
             self.value = 0;
             self.digits = false;
             self
@@ -101,19 +77,15 @@ impl Scan {
     }
 
     // The next byte of the line.
+    #[tactic(auto, unfolding(crate::specs::Scans::feed_of))]
     pub fn feed(self, byte: u8) -> Scan
         ensures { result ≡ feed_of self byte }
     {
-        if byte == SPACE {
-            return self.end_field();
+        match byte {
+            b' ' => self.end_field(),
+            b'0'..=b'9' => self.with_digit(byte - b'0'),
+            _ => self.spoil(),
         }
-        if byte < ZERO {
-            return self.spoil();
-        }
-        if byte > NINE {
-            return self.spoil();
-        }
-        self.with_digit(byte - ZERO)
     }
 
     // The open line from a place of a piece of input on, up to its LF or the piece's end.
@@ -121,35 +93,34 @@ impl Scan {
         ensures { FedOn self bytes.now from result.scan result.to }
     {
         let mut scan = self;
-        let mut to = from;
-        while to < bytes.len() {
-            let byte = bytes[to];
-            if byte == LF {
-                return Fed { scan, to };
+        let Some(rest) = bytes.get(from..) else {
+            return Fed { scan, to: from };
+        };
+        for (read, &byte) in rest.iter().enumerate() {
+            if byte == b'\n' {
+                return Fed {
+                    scan,
+                    to: from + read,
+                };
             }
             scan = scan.feed(byte);
-            to += 1;
         }
-        Fed { scan, to }
+        Fed {
+            scan,
+            to: from + rest.len(),
+        }
     }
 
-    // The line is at its end.
-    pub fn finish(self) -> NumbersRead
+    // The line is at its end: its seven numbers, none where it is not seven decimals.
+    #[tactic(auto, unfolding(crate::specs::Scans::finish_of))]
+    pub fn finish(mut self) -> Option<[u32; FIELDS]>
         ensures { result ≡ finish_of self }
     {
-        let mut numbers = self.numbers;
-        let value = self.value;
-        if both(both(self.ended == LAST, self.field_reads()), !self.bad) {
-            numbers[LAST] = value as u32;
-            NumbersRead {
-                readable: true,
-                numbers,
-            }
+        if self.ended == LAST && self.field_reads() && !self.bad {
+            self.numbers[LAST] = self.value as u32;
+            Some(self.numbers)
         } else {
-            NumbersRead {
-                readable: false,
-                numbers: [0; FIELDS],
-            }
+            None
         }
     }
 }

@@ -1,5 +1,5 @@
 -- Laws of sets of racks as bits, and of the loop that builds one from the highest rack down.
-use Rattle.std.proofs.Common.{ℕ, zero, suc, ◌+◌, ◌-◌, ◌*◌, ◌/◌, ◌%◌, ◌^◌, ◌≤◌, ◌<◌, arith, div-one, mod-eq_of_lt, add-zero, zero-add, eqb, lt-ltb, le-ltb, pow_mono, ◌≡◌, refl, sym, ap, ◌∙◌, Bool, true, false, cond, not}
+use Rattle.std.proofs.Common.{ℕ, zero, suc, ◌+◌, ◌-◌, ◌*◌, ◌/◌, ◌%◌, ◌^◌, ◌≤◌, ◌<◌, arith, div-one, mod-eq_of_lt, add-zero, zero-add, eqb, pow_mono, ◌≡◌, refl, sym, ap, ◌∙◌, Bool, true, false, cond}
 use Rattle.std.proofs.Math.Nat.{div-div-eq-div-mul, div-eq_of_lt, pow-succ', sub_self, sub-zero}
 use Rattle.pages.specs.Racks.{has, set_of, outside}
 
@@ -84,24 +84,6 @@ set_ends n k s f h l = h ∙ rw (none, sub-zero) (set_of_same n (λ j. f (0 + j)
   where
     none : k ≡ 0
     none = omega arith
-
--- the function `has` from rack 8 on
-pub has_none : (s k : ℕ) → s < 256 → 8 ≤ k → false ≡ has s k
-has_none s k a b = sym (has_past s k a b)
-
--- the two ways through `below_all`
-pub bit_yes : (b : Bool) (m : ℕ) → b ≡ true → m * 2 + 1 ≡ cond b 1 0 + 2 * m
-bit_yes b m h = rw h (omega arith)
-
-pub bit_no : (b : Bool) (m : ℕ) → b ≡ false → m * 2 ≡ cond b 1 0 + 2 * m
-bit_no b m h = rw h (omega arith)
-
--- the two ways through `is_outside`
-pub outside_of_hall : (cf racks k : ℕ) → racks ≤ k → false ≡ outside cf racks k
-outside_of_hall cf racks k h = rw (le-ltb k racks h)
-
-pub outside_of_cf : (r : Bool) (cf racks k : ℕ) → r ≡ has cf k → k < racks → not r ≡ outside cf racks k
-outside_of_cf r cf racks k e h = rw (lt-ltb k racks h, e)
 
 -- one turn of the loop of `outside`
 pub outside_more : (cf racks k s : ℕ) (b : Bool) {t : ℕ} → b ≡ outside cf racks (k - 1) → t ≡ cond b 1 0 + 2 * (s % 128) → 0 < k → k ≤ 8 →

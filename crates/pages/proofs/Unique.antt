@@ -3,8 +3,8 @@ use Rattle.std.proofs.Common.{sym, ◌∙◌}
 use Rattle.below.proofs.Unique.{Determines}
 use Rattle.pages.proofs.line.Reading.in_range.Kinds as reading_in_range_kinds
 use Rattle.pages.proofs.line.Reading.in_range.Reads as reading_in_range
-use Rattle.pages.proofs.line.Reading.same.Kinds as reading_same_kinds
-use Rattle.pages.proofs.line.Reading.same.Reads as reading_same
+use Rattle.pages.proofs.line.Line.of.Kinds as line_of_kinds
+use Rattle.pages.proofs.line.Line.of.Reads as line_of
 use Rattle.pages.proofs.line.Line.is_absent.Kinds as line_is_absent_kinds
 use Rattle.pages.proofs.line.Line.is_absent.Reads as line_is_absent
 use Rattle.pages.proofs.line.Line.is_nil.Kinds as line_is_nil_kinds
@@ -67,8 +67,8 @@ use Rattle.pages.proofs.racks.outside.Reads as outside
 pub reading_in_range_unique : Determines 0 reading_in_range_kinds.ps reading_in_range_kinds.r reading_in_range.Post
 reading_in_range_unique κs a x y s t p q = p ∙ sym q
 
-pub reading_same_unique : Determines 0 reading_same_kinds.ps reading_same_kinds.r reading_same.Post
-reading_same_unique κs a x y s t p q = p ∙ sym q
+pub line_of_unique : Determines 0 line_of_kinds.ps line_of_kinds.r line_of.Post
+line_of_unique κs a x y s t p q = λ i. record { mark = (p ∙ sym q) i }
 
 pub line_is_absent_unique : Determines 0 line_is_absent_kinds.ps line_is_absent_kinds.r line_is_absent.Post
 line_is_absent_unique κs a x y s t p q = p ∙ sym q

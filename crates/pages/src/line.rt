@@ -1,19 +1,20 @@
 // Readings and lines.
 ghost use Rattle.std.specs.Prelude.{◌≡◌, cond, not, ◌&&◌, ◌||◌};
-ghost use Rattle.pages.specs.Lines.{reading_in_range, same_reading, is_absent, is_nil, is_reading, holds, mark_in_range, append_mark, prefix_mark, compatible_mark};
+ghost use Rattle.pages.specs.declared.line.Mark.TheVariants.{Reading as reads};
+ghost use Rattle.pages.specs.Lines.{reading_in_range, is_absent, is_nil, is_reading, holds, mark_in_range, append_mark, prefix_mark, compatible_mark};
 
 // What a rack read from a headset: headset × 65,536 + dose in tenths of a percent.
-#[derive(Clone, Copy)]
+#[derive(Clone, Copy, Debug, PartialEq, Eq)]
 pub struct Reading(pub u32);
 
-#[derive(Clone, Copy)]
+#[derive(Clone, Copy, Debug, PartialEq, Eq)]
 pub enum Mark {
     Absent,
     Nil,
     Reading(Reading),
 }
 
-#[derive(Clone, Copy)]
+#[derive(Clone, Copy, Debug, PartialEq, Eq)]
 pub struct Line {
     pub mark: Mark,
 }
@@ -29,56 +30,45 @@ impl Reading {
     {
         self.0 >= Reading::SMALLEST && self.0 <= Reading::LARGEST
     }
-
-    pub fn same(self, other: Reading) -> bool
-        ensures { result ≡ same_reading self other }
-    {
-        self.0 == other.0
-    }
 }
 
 impl Line {
+    pub const ABSENT: Line = Line { mark: Mark::Absent };
+
+    pub const NIL: Line = Line { mark: Mark::Nil };
+
+    pub fn of(reading: Reading) -> Line
+        ensures { result.mark ≡ reads reading }
+    {
+        Line {
+            mark: Mark::Reading(reading),
+        }
+    }
+
     pub fn is_absent(self) -> bool
         ensures { result ≡ is_absent self.mark }
     {
-        let mark = self.mark;
-        match mark {
-            Mark::Absent => true,
-            Mark::Nil => false,
-            Mark::Reading(_) => false,
-        }
+        matches!(self.mark, Mark::Absent)
     }
 
     pub fn is_nil(self) -> bool
         ensures { result ≡ is_nil self.mark }
     {
-        let mark = self.mark;
-        match mark {
-            Mark::Absent => false,
-            Mark::Nil => true,
-            Mark::Reading(_) => false,
-        }
+        matches!(self.mark, Mark::Nil)
     }
 
     pub fn is_reading(self) -> bool
         ensures { result ≡ is_reading self.mark }
     {
-        let mark = self.mark;
-        match mark {
-            Mark::Absent => false,
-            Mark::Nil => false,
-            Mark::Reading(_) => true,
-        }
+        matches!(self.mark, Mark::Reading(_))
     }
 
     pub fn holds(self, reading: Reading) -> bool
         ensures { result ≡ holds self.mark reading }
     {
-        let mark = self.mark;
-        match mark {
-            Mark::Absent => false,
-            Mark::Nil => false,
-            Mark::Reading(mine) => mine.same(reading),
+        match self.mark {
+            Mark::Reading(mine) => mine == reading,
+            _ => false,
         }
     }
 
@@ -86,19 +76,16 @@ impl Line {
     pub fn in_range(self) -> bool
         ensures { result ≡ mark_in_range self.mark }
     {
-        let mark = self.mark;
-        match mark {
-            Mark::Absent => true,
-            Mark::Nil => true,
+        match self.mark {
             Mark::Reading(mine) => mine.in_range(),
+            _ => true,
         }
     }
 
     pub fn append(self, other: Line) -> Line
         ensures { result.mark ≡ append_mark self.mark other.mark }
     {
-        let mark = self.mark;
-        match mark {
+        match self.mark {
             Mark::Absent => other,
             Mark::Nil => self,
             Mark::Reading(_) => self,
@@ -115,8 +102,7 @@ impl Line {
     pub fn prefix_of(self, other: Line) -> bool
         ensures { result ≡ prefix_mark self.mark other.mark }
     {
-        let mark = self.mark;
-        match mark {
+        match self.mark {
             Mark::Absent => true,
             Mark::Nil => other.is_nil(),
             Mark::Reading(mine) => other.holds(mine),
@@ -126,35 +112,27 @@ impl Line {
     pub fn compatible(self, other: Line) -> bool
         ensures { result ≡ compatible_mark self.mark other.mark }
     {
-        if self.is_absent() {
-            true
-        } else {
-            other.prefix_of(self)
-        }
+        self.is_absent() || other.prefix_of(self)
     }
 
     // Of a rack of the set the line is there.
     pub fn present_if(self, member: bool) -> bool
         ensures { result ≡ not (member && is_absent self.mark) }
     {
-        if member { !self.is_absent() } else { true }
+        !(member && self.is_absent())
     }
 
     // Of a rack of the set the line is Nil.
     pub fn nil_if(self, member: bool) -> bool
         ensures { result ≡ not member || is_nil self.mark }
     {
-        if member { self.is_nil() } else { true }
+        !member || self.is_nil()
     }
 
     // Of a rack outside the set the line is absent, and a reading is in range.
     pub fn within_if(self, member: bool) -> bool
         ensures { result ≡ (member || is_absent self.mark) && mark_in_range self.mark }
     {
-        if member {
-            self.in_range()
-        } else {
-            self.is_absent()
-        }
+        (member || self.is_absent()) && self.in_range()
     }
 }

@@ -7,10 +7,10 @@ use Rattle.records.specs.declared.messages.OneA.{OneA}
 use Rattle.records.specs.declared.messages.TwoS.{TwoS}
 use Rattle.records.specs.declared.messages.TwoA.{TwoA}
 use Rattle.records.specs.declared.rows.BoxRow.{BoxRow}
-use Rattle.message_blocks.specs.Messages as Sent
-use Rattle.message_blocks.proofs.Theorems.{Lined}
-use Rattle.row_blocks.specs.Rows as Rows
-use Rattle.row_blocks.proofs.Theorems.{box_kept}
+use Rattle.blocks.specs.Messages as Sent
+use Rattle.blocks.proofs.MessageKinds.{Lined}
+use Rattle.blocks.specs.Rows as Rows
+use Rattle.blocks.proofs.RowKinds.{box_kept}
 use Rattle.boxes.specs.Steps.{join_of, take_page_of, take_reading_of}
 use Rattle.boxes.proofs.RulesKept.{join_keeps, take_page_keeps, take_reading_keeps}
 use Rattle.boxes.proofs.Shape.{join_shape, take_page_shape, take_reading_shape}

@@ -11,9 +11,9 @@ use Rattle.records.specs.declared.messages.OneB.{OneB}
 use Rattle.records.specs.declared.rows.CoordinatorRow.{CoordinatorRow}
 use Rattle.records.specs.Slots.{heard_at}
 use Rattle.fields.specs.Layout.{heard, past_heard}
-use Rattle.message_blocks.specs.Messages as Sent
-use Rattle.row_blocks.specs.Rows as Rows
-use Rattle.row_blocks.proofs.Theorems.{coordinator_kept, CoordinatorShaped}
+use Rattle.blocks.specs.Messages as Sent
+use Rattle.blocks.specs.Rows as Rows
+use Rattle.blocks.proofs.RowKinds.{coordinator_kept, CoordinatorShaped}
 use Rattle.coordinators.specs.Steps.{start_of, hear_of, open_of}
 use Rattle.coordinators.proofs.RulesKept.{start_keeps, hear_keeps, open_keeps}
 use Rattle.coordinators.proofs.Shape.{CoordinatorShape, start_shape, hear_shape, open_shape}

@@ -10,8 +10,8 @@ use Rattle.blocks.specs.Frame.{block_size}
 use Rattle.blocks.specs.Kinds.{Kind, encode}
 use Rattle.blocks.proofs.Kept.{Kept}
 use Rattle.blocks.proofs.Ranges.{SetupFits, setup_fits}
-use Rattle.row_blocks.specs.Rows as Rows
-use Rattle.row_blocks.proofs.Theorems.{head_kept, coordinator_kept, box_kept, rack_kept, reader_kept}
+use Rattle.blocks.specs.Rows as Rows
+use Rattle.blocks.proofs.RowKinds.{head_kept, coordinator_kept, box_kept, rack_kept, reader_kept}
 use Rattle.acts.specs.Acts.{body_of}
 use Rattle.hall.specs.Halls.{blocks_of_hall, coordinators_at, boxes_at, racks_at, readers_at, messages_at, block_at, fresh_coordinator, fresh_box, fresh_rack, fresh_reader, row_or_zero, fresh_block, fresh_hall}
 use Rattle.safety.proofs.Moved.{Agent, coordinator, box, rack, reader}

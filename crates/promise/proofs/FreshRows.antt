@@ -18,7 +18,7 @@ use Rattle.records.specs.declared.slots.Held.{Held}
 use Rattle.records.specs.Slots.{no_heard, no_held, no_blank, heard_at, held_at, blank_at}
 use Rattle.records.specs.Rules.{vote_rules, opened_rules, last_rules, nothing_heard, nothing_held, heard_rules, held_rules, blank_rules, all_heard, all_held, all_blanks, coordinator_rules, box_rules, rack_rules, reader_rules}
 use Rattle.records.proofs.RuleParts.{empty_open_rules}
-use Rattle.row_blocks.proofs.Theorems.{CoordinatorShaped, ReaderShaped}
+use Rattle.blocks.proofs.RowKinds.{CoordinatorShaped, ReaderShaped}
 use Rattle.hall.specs.Halls.{fresh_coordinator, fresh_box, fresh_rack, fresh_reader}
 use Rattle.safety.proofs.InRange.{setup_some_rack}
 

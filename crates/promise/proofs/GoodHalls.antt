@@ -6,10 +6,10 @@ use Rattle.rounds.specs.Setups.{setup_in_range}
 use Rattle.words.specs.Bytes.{byte}
 use Rattle.fields.proofs.Fitted.{Any}
 use Rattle.blocks.specs.Kinds.{encode}
-use Rattle.message_blocks.specs.Messages as Sent
-use Rattle.message_blocks.proofs.Theorems.{one_a_kept, two_s_kept, two_a_kept}
-use Rattle.row_blocks.specs.Rows as Rows
-use Rattle.row_blocks.proofs.Theorems.{coordinator_kept, box_kept, rack_kept}
+use Rattle.blocks.specs.Messages as Sent
+use Rattle.blocks.proofs.MessageKinds.{one_a_kept, two_s_kept, two_a_kept}
+use Rattle.blocks.specs.Rows as Rows
+use Rattle.blocks.proofs.RowKinds.{coordinator_kept, box_kept, rack_kept}
 use Rattle.kinds.specs.Known.{good_as}
 use Rattle.acts.specs.Acts.{is_a, body_of, agent_of}
 use Rattle.hall.specs.Halls.{hall_size, coordinators_at, boxes_at, racks_at, readers_at, messages_at, block_at}

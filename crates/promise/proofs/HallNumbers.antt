@@ -6,8 +6,8 @@ use Rattle.below.proofs.Granted.{unless_held, unless_later}
 use Rattle.rounds.specs.declared.setup.Setup.{Setup}
 use Rattle.records.specs.declared.stamp.Stamp.{Stamp}
 use Rattle.blocks.specs.Kinds.{good}
-use Rattle.row_blocks.specs.Rows as Rows
-use Rattle.row_blocks.proofs.Theorems.{coordinator_kept, box_kept, rack_kept, reader_kept}
+use Rattle.blocks.specs.Rows as Rows
+use Rattle.blocks.proofs.RowKinds.{coordinator_kept, box_kept, rack_kept, reader_kept}
 use Rattle.kinds.specs.Known.{good_as}
 use Rattle.acts.specs.declared.step.Step.{Step}
 use Rattle.acts.specs.Acts.{Act, act_of}

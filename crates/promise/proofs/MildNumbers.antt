@@ -23,11 +23,11 @@ use Rattle.records.specs.declared.rows.BoxRow.{BoxRow}
 use Rattle.records.specs.declared.rows.RackRow.{RackRow}
 use Rattle.records.specs.declared.rows.ReaderRow.{ReaderRow}
 use Rattle.records.specs.Slots.{heard_at, held_at, blank_at}
+use Rattle.records.specs.Answers.{Noted}
 use Rattle.blocks.specs.Kinds.{Kind}
 use Rattle.racks.specs.Steps.{prepare_refusal, fast_refusal, blank_refusal}
 use Rattle.boxes.specs.Steps.{may_vote, join_refusal, take_page_refusal, take_reading_refusal}
 use Rattle.coordinators.specs.Steps.{any_clash, heard_count, joined_votes, start_refusal, hear_refusal, open_refusal}
-use Rattle.readers.specs.declared.answer.Noted.{Noted}
 use Rattle.readers.specs.Notes.{by_order, same_round_refusal, note_vote_refusal, note_vote_of, note_blank_refusal, note_blank_of}
 use Rattle.readers.specs.Learning.{Learns, too_few, not_compatible, all_nil, learnt}
 use Rattle.below.proofs.Granted.{answer_number}
@@ -98,7 +98,7 @@ mild_blank h m = mild_unless (is_nil m.line.mark) mild_5 (go h.filled)
     go true = mild_order (order_of h.round m.round)
     go false = mild_0
 
-pub low_learn : {s : Setup} {r : ReaderRow} {round : Round} {a : Noted} → Learns s r round a → Low a.refusal
+pub low_learn : {s : Setup} {r : ReaderRow} {round : Round} {a : Noted ReaderRow} → Learns s r round a → Low a.refusal
 low_learn (too_few n) = low_8
 low_learn (not_compatible among m n) = low_9
 low_learn (all_nil among m w j t) = low_9
@@ -106,11 +106,11 @@ low_learn (learnt among m w j t) = inl refl
 
 pub note_vote_number : (r : ReaderRow) (b : ℕ) (m : TwoB) → (note_vote_of r b m).refusal ≡ note_vote_refusal (held_at r b) m
 unfolding note_vote_of
-note_vote_number r b m = answer_number (λ (a : Noted). a.refusal) (note_vote_refusal (held_at r b) m) _ _ refl refl
+note_vote_number r b m = answer_number (λ (a : Noted ReaderRow). a.refusal) (note_vote_refusal (held_at r b) m) _ _ refl refl
 
 pub note_blank_number : (r : ReaderRow) (k : ℕ) (m : TwoA) → (note_blank_of r k m).refusal ≡ note_blank_refusal (blank_at r k) m
 unfolding note_blank_of
-note_blank_number r k m = answer_number (λ (a : Noted). a.refusal) (note_blank_refusal (blank_at r k) m) _ _ refl refl
+note_blank_number r k m = answer_number (λ (a : Noted ReaderRow). a.refusal) (note_blank_refusal (blank_at r k) m) _ _ refl refl
 
 pub mild_prepare : (r : RackRow) (m : TwoS) → Mild (prepare_refusal r m)
 unfolding prepare_refusal

@@ -7,9 +7,9 @@ use Rattle.rounds.specs.Setups.{setup_in_range}
 use Rattle.rounds.specs.Rounds.{round_of}
 use Rattle.records.specs.Slots.{held_at, blank_at}
 use Rattle.blocks.specs.Kinds.{encode}
-use Rattle.message_blocks.specs.Messages as Sent
-use Rattle.row_blocks.specs.Rows as Rows
-use Rattle.row_blocks.proofs.Theorems.{coordinator_kept}
+use Rattle.blocks.specs.Messages as Sent
+use Rattle.blocks.specs.Rows as Rows
+use Rattle.blocks.proofs.RowKinds.{coordinator_kept}
 use Rattle.racks.specs.Steps.{offer_of, prepare_of, fast_of, blank_of}
 use Rattle.racks.proofs.GrantedSteps.{prepare_number, fast_number, blank_number}
 use Rattle.boxes.specs.Steps.{join_of, take_page_of, take_reading_of}

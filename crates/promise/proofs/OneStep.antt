@@ -11,10 +11,10 @@ use Rattle.blocks.specs.Kinds as Kinds
 use Rattle.blocks.specs.Kinds.{Kind, encode}
 use Rattle.blocks.proofs.Kept.{Kept}
 use Rattle.blocks.proofs.Ranges.{setup_fits}
-use Rattle.message_blocks.specs.Messages as Sent
-use Rattle.message_blocks.proofs.Theorems.{propose_kept, one_a_kept, one_b_kept, two_s_kept, two_a_kept, two_b_kept, Lined}
-use Rattle.row_blocks.specs.Rows as Rows
-use Rattle.row_blocks.proofs.Theorems.{coordinator_kept, box_kept, rack_kept, reader_kept, CoordinatorShaped, ReaderShaped}
+use Rattle.blocks.specs.Messages as Sent
+use Rattle.blocks.proofs.MessageKinds.{propose_kept, one_a_kept, one_b_kept, two_s_kept, two_a_kept, two_b_kept, Lined}
+use Rattle.blocks.specs.Rows as Rows
+use Rattle.blocks.proofs.RowKinds.{coordinator_kept, box_kept, rack_kept, reader_kept, CoordinatorShaped, ReaderShaped}
 use Rattle.kinds.specs.Known.{good_as}
 use Rattle.acts.specs.declared.step.Step.{Step}
 use Rattle.acts.specs.Acts.{Act, refused, sending, silent, is_a, body_of, agent_of, on_row, on_both}

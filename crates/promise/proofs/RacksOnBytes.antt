@@ -9,9 +9,9 @@ use Rattle.records.specs.declared.rows.RackRow.{RackRow}
 use Rattle.fields.proofs.Fitted.{Any}
 use Rattle.blocks.specs.Kinds.{encode}
 use Rattle.blocks.proofs.Ranges.{setup_fits}
-use Rattle.message_blocks.specs.Messages as Sent
-use Rattle.row_blocks.specs.Rows as Rows
-use Rattle.row_blocks.proofs.Theorems.{rack_kept}
+use Rattle.blocks.specs.Messages as Sent
+use Rattle.blocks.specs.Rows as Rows
+use Rattle.blocks.proofs.RowKinds.{rack_kept}
 use Rattle.racks.specs.Steps.{offer_of, prepare_of, fast_of, blank_of}
 use Rattle.racks.proofs.RulesKept.{offer_keeps, prepare_keeps, fast_keeps, blank_keeps}
 use Rattle.acts.specs.declared.step.Step.{Step}

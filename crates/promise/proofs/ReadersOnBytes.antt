@@ -13,10 +13,10 @@ use Rattle.records.specs.declared.messages.TwoB.{TwoB}
 use Rattle.records.specs.declared.rows.ReaderRow.{ReaderRow}
 use Rattle.records.specs.Slots.{held_at}
 use Rattle.fields.specs.Layout.{held, past_held}
-use Rattle.message_blocks.specs.Messages as Sent
-use Rattle.message_blocks.proofs.Theorems.{Lined}
-use Rattle.row_blocks.specs.Rows as Rows
-use Rattle.row_blocks.proofs.Theorems.{reader_kept, ReaderShaped}
+use Rattle.blocks.specs.Messages as Sent
+use Rattle.blocks.proofs.MessageKinds.{Lined}
+use Rattle.blocks.specs.Rows as Rows
+use Rattle.blocks.proofs.RowKinds.{reader_kept, ReaderShaped}
 use Rattle.readers.specs.Notes.{note_vote_of, note_blank_row, note_blank_of}
 use Rattle.readers.specs.Counting.{counted_of}
 use Rattle.readers.proofs.GrantedNotes.{note_vote_granted, note_vote_held, note_blank_granted}

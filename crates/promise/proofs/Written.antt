@@ -9,8 +9,8 @@ use Rattle.fields.proofs.Fitted.{Any}
 use Rattle.blocks.specs.Frame.{block_size}
 use Rattle.blocks.specs.Kinds.{encode}
 use Rattle.blocks.proofs.Ranges.{SetupFits, setup_fits}
-use Rattle.row_blocks.specs.Rows as Rows
-use Rattle.row_blocks.proofs.Theorems.{head_kept}
+use Rattle.blocks.specs.Rows as Rows
+use Rattle.blocks.proofs.RowKinds.{head_kept}
 use Rattle.acts.specs.Acts.{body_of}
 use Rattle.hall.specs.Halls.{hall_size, blocks_of_hall, messages_at, block_at}
 use Rattle.hall.specs.Steps.{most_messages, head_of, count_of, put_block, posted}

@@ -7,8 +7,8 @@ use Rattle.rounds.specs.declared.setup.Setup.{Setup}
 use Rattle.rounds.specs.Setups.{one_to}
 use Rattle.rounds.specs.Rounds.{round_of}
 use Rattle.records.specs.declared.rows.ReaderRow.{ReaderRow}
-use Rattle.row_blocks.specs.Rows.{reader}
-use Rattle.readers.specs.declared.answer.Noted.{Noted}
+use Rattle.records.specs.Answers.{Noted}
+use Rattle.blocks.specs.Rows.{reader}
 use Rattle.readers.specs.Learning.{Learns}
 use Rattle.acts.specs.declared.step.Step.{Step}
 use Rattle.acts.specs.Acts.{body_of}
@@ -45,7 +45,7 @@ pub record OfferedBy (hall : List ℕ) (steps : List Step) (v : Reading) : Type 
 pub record LearntBy (s : Setup) (hall hall' : List ℕ) (x : Step) (i : ℕ) : Type 0 where
   pub code_is : x.code ≡ 13
   pub agent_is : x.agent ≡ i
-  pub answer : Noted
+  pub answer : Noted ReaderRow
   pub learns : Learns s (reader_of hall i) (round_of x.n x.c x.cf) answer
   pub answers : answer.refusal ≡ granted
   pub row_is : reader_of hall' i ≡ answer.row

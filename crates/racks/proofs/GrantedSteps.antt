@@ -15,14 +15,13 @@ use Rattle.records.specs.declared.messages.Propose.{Propose}
 use Rattle.records.specs.declared.messages.TwoS.{TwoS}
 use Rattle.records.specs.declared.messages.TwoA.{TwoA}
 use Rattle.records.specs.declared.rows.RackRow.{RackRow}
-use Rattle.racks.specs.declared.answer.Prepared.{Prepared}
-use Rattle.racks.specs.declared.answer.Spoken.{Spoken}
+use Rattle.records.specs.Answers.{Answer, Noted}
 use Rattle.racks.specs.Steps.{no_two_a, spoken, said, saying, prepare_refusal, prepare_row, prepare_of, fast_refusal, fast_of, blank_refusal, blank_of}
 
 -- 6 prepare: the number answered is that of the first condition that fails
 pub prepare_number : (agent : ℕ) (row : RackRow) (m : TwoS) → (prepare_of agent row m).refusal ≡ prepare_refusal row m
 unfolding prepare_of
-prepare_number agent row m = answer_number (λ (a : Prepared). a.refusal) (prepare_refusal row m) _ _ refl refl
+prepare_number agent row m = answer_number (λ (a : Noted RackRow). a.refusal) (prepare_refusal row m) _ _ refl refl
 
 pub record PrepareGranted (agent : ℕ) (row : RackRow) (m : TwoS) : Type 0 where
   pub above : Lower row.prnd m.round
@@ -34,8 +33,8 @@ unfolding prepare_of prepare_refusal prepare_row
 prepare_granted agent row m h =
     record {
       above = above_is m.round row.prnd (unless_held _ wrong_round granted (omega arith) number);
-      prnd_is = ap (λ (a : Prepared). a.row.prnd) answer;
-      pval_is = ap (λ (a : Prepared). a.row.pval.mark) answer;
+      prnd_is = ap (λ (a : Noted RackRow). a.row.prnd) answer;
+      pval_is = ap (λ (a : Noted RackRow). a.row.pval.mark) answer;
     }
   where
     number : prepare_refusal row m ≡ granted
@@ -51,7 +50,7 @@ prepare_refused agent row m h = answer_refused (prepare_refusal row m) _ _ h
 
 -- a rack that speaks was not refused, and one that was refused says nothing
 spoken_number : (number : ℕ) (row after : RackRow) (sent : TwoA) → (spoken number row after sent).refusal ≡ number
-spoken_number number row after sent = answer_number (λ (a : Spoken). a.refusal) number _ _ refl refl
+spoken_number number row after sent = answer_number (λ (a : Answer RackRow TwoA). a.refusal) number _ _ refl refl
 
 spoken_granted : (number : ℕ) (row after : RackRow) (sent : TwoA) → number ≡ granted →
     spoken number row after sent ≡ record { refusal = granted; row = after; sent = sent }
@@ -80,8 +79,8 @@ fast_granted agent row m h =
       silent =
           absent_is row.pval.mark
           (unless_held _ already_done granted (omega arith) (unless_later (has row.prnd.cf agent) wrong_round later (omega arith) number));
-      row_is = ap (λ (a : Spoken). a.row) answer;
-      sent_is = ap (λ (a : Spoken). a.sent) answer;
+      row_is = ap (λ (a : Answer RackRow TwoA). a.row) answer;
+      sent_is = ap (λ (a : Answer RackRow TwoA). a.sent) answer;
     }
   where
     later : ℕ
@@ -119,8 +118,8 @@ blank_granted agent row m h =
       same = equal_is m.round row.prnd (and_left _ (has row.prnd.cf agent) fits);
       in_cf = and_right (is_equal (order_of m.round row.prnd)) _ fits;
       silent = absent_is row.pval.mark (unless_held _ already_done granted (omega arith) (unless_later fitting wrong_round later (omega arith) number'));
-      row_is = ap (λ (a : Spoken). a.row) answer;
-      sent_is = ap (λ (a : Spoken). a.sent) answer;
+      row_is = ap (λ (a : Answer RackRow TwoA). a.row) answer;
+      sent_is = ap (λ (a : Answer RackRow TwoA). a.sent) answer;
     }
   where
     later : ℕ

@@ -13,14 +13,13 @@ use Rattle.records.specs.declared.messages.Propose.{Propose}
 use Rattle.records.specs.declared.messages.TwoS.{TwoS}
 use Rattle.records.specs.declared.messages.TwoA.{TwoA}
 use Rattle.records.specs.declared.rows.RackRow.{RackRow}
-use Rattle.racks.specs.declared.answer.Prepared.{Prepared}
-use Rattle.racks.specs.declared.answer.Spoken.{Spoken}
+use Rattle.records.specs.Answers.{Answer, Noted}
 
 -- a refused step leaves the row as it was and sends nothing
 abbrev pub no_two_a : TwoA
 no_two_a = record { round = no_round; line = line Absent }
 
-abbrev pub spoken : ℕ → RackRow → RackRow → TwoA → Spoken
+abbrev pub spoken : ℕ → RackRow → RackRow → TwoA → Answer RackRow TwoA
 spoken number row after sent =
     cond (eqb number granted) (record { refusal = granted; row = after; sent = sent }) (record { refusal = number; row = row; sent = no_two_a })
 
@@ -35,7 +34,7 @@ prepare_refusal row m = unless (is_above (order_of m.round row.prnd)) wrong_roun
 unfoldable pub prepare_row : ℕ → TwoS → RackRow
 prepare_row agent m = record { prnd = m.round; pval = line (cond (empty_of m.page) Absent (at m.page agent)) }
 
-unfoldable pub prepare_of : ℕ → RackRow → TwoS → Prepared
+unfoldable pub prepare_of : ℕ → RackRow → TwoS → Noted RackRow
 prepare_of agent row m =
     cond (eqb (prepare_refusal row m) granted) (record { refusal = granted; row = prepare_row agent m }) (record { refusal = prepare_refusal row m; row = row })
 
@@ -50,7 +49,7 @@ saying row m = record { round = row.prnd; line = line m }
 unfoldable pub fast_refusal : ℕ → RackRow → ℕ
 fast_refusal agent row = unless (has row.prnd.cf agent) wrong_round (unless (is_absent row.pval.mark) already_done granted)
 
-unfoldable pub fast_of : ℕ → RackRow → Propose → Spoken
+unfoldable pub fast_of : ℕ → RackRow → Propose → Answer RackRow TwoA
 fast_of agent row m = spoken (fast_refusal agent row) row (said row (reads m.reading)) (saying row (reads m.reading))
 
 -- 8 blank (2A with a reading): round equals prnd and rack in cf, else 6; pval none, else 7. Sets pval to Nil; sends 2A with Nil
@@ -60,5 +59,5 @@ blank_refusal agent row m =
     (unless (is_equal (order_of m.round row.prnd) && has row.prnd.cf agent) wrong_round
     (unless (is_absent row.pval.mark) already_done granted))
 
-unfoldable pub blank_of : ℕ → RackRow → TwoA → Spoken
+unfoldable pub blank_of : ℕ → RackRow → TwoA → Answer RackRow TwoA
 blank_of agent row m = spoken (blank_refusal agent row m) row (said row Nil) (saying row Nil)

@@ -1,75 +1,36 @@
 // Offer, prepare, fast and blank.
-ghost use Rattle.std.specs.Prelude.{◌≡◌, cond, ◌&&◌};
-ghost use Rattle.below.specs.Refusals.{unless, granted, wrong_message, wrong_round, already_done};
+ghost use Rattle.std.specs.Prelude.{◌≡◌, cond};
 ghost use Rattle.pages.specs.declared.line.Mark.TheVariants.{Absent};
-ghost use Rattle.pages.specs.Lines.{is_absent, is_reading};
-ghost use Rattle.pages.specs.Racks.{has};
 ghost use Rattle.pages.specs.Pages.{at, empty_of};
-ghost use Rattle.rounds.specs.Rounds.{order_of, is_above, is_equal};
-ghost use Rattle.racks.specs.Steps.{offer_of, prepare_of, fast_of, blank_of, spoken, said, saying};
+ghost use Rattle.records.specs.Answers.{answer_of, noted_of};
+ghost use Rattle.racks.specs.Steps.{offer_of, prepare_of, fast_of, blank_of, no_two_a, said, saying};
 
-use crate::answer::{Prepared, Spoken};
-use below::{ALREADY_DONE, GRANTED, WRONG_MESSAGE, WRONG_ROUND, both, unless};
-use pages::{Line, Mark, Page, Reading, has};
-use records::{NO_ROUND, Propose, RackRow, TwoA, TwoS};
-use rounds::Round;
+use below::Refusal;
+use pages::{Line, Page, Reading, has};
+use records::{Granted, Propose, RackRow, TwoA, TwoS};
 
 // The rack's line of a page that opens a round; none where the page is empty.
 fn own_line(page: Page, agent: u8) -> Line
     ensures { result.mark ≡ cond (empty_of page) Absent (at page agent) }
 {
     if page.is_empty() {
-        Line { mark: Mark::Absent }
+        Line::ABSENT
     } else {
-        page.at(agent as usize)
+        page.at(usize::from(agent))
     }
 }
 
-fn prepare_refusal(prnd: Round, round: Round) -> u8
-    ensures { result ≡ unless (is_above (order_of round prnd)) wrong_round granted }
+// The rack speaks its line in prnd.
+fn speak(row: RackRow, line: Line) -> Granted<RackRow, TwoA>
+    ensures { (result.row ≡ said row line.mark) × (result.sent ≡ saying row line.mark) }
 {
-    unless(round.compare(prnd).is_above(), WRONG_ROUND, GRANTED)
-}
-
-fn fast_refusal(agent: u8, prnd: Round, pval: Line) -> u8
-    ensures { result ≡ unless (has prnd.cf agent) wrong_round (unless (is_absent pval.mark) already_done granted) }
-{
-    let done = unless(pval.is_absent(), ALREADY_DONE, GRANTED);
-    unless(has(prnd.cf, agent as usize), WRONG_ROUND, done)
-}
-
-fn blank_refusal(agent: u8, prnd: Round, pval: Line, round: Round, line: Line) -> u8
-    ensures { result ≡ unless (is_reading line.mark) wrong_message (unless (is_equal (order_of round prnd) && has prnd.cf agent) wrong_round (unless (is_absent pval.mark) already_done granted)) }
-{
-    let fits = both(round.compare(prnd).is_equal(), has(prnd.cf, agent as usize));
-    let done = unless(pval.is_absent(), ALREADY_DONE, GRANTED);
-    unless(
-        line.is_reading(),
-        WRONG_MESSAGE,
-        unless(fits, WRONG_ROUND, done),
-    )
-}
-
-// The rack speaks its line in prnd, unless it is refused.
-fn speak(number: u8, row: RackRow, line: Line) -> Spoken
-    ensures { result ≡ spoken number row (said row line.mark) (saying row line.mark) }
-{
-    if number == GRANTED {
-        let prnd = row.prnd;
-        Spoken {
-            refusal: GRANTED,
-            row: RackRow { prnd, pval: line },
-            sent: TwoA { round: prnd, line },
-        }
-    } else {
-        Spoken {
-            refusal: number,
-            row,
-            sent: TwoA {
-                round: NO_ROUND,
-                line: Line { mark: Mark::Absent },
-            },
-        }
+    let round = row.prnd;
+    Granted {
+        row: RackRow {
+            prnd: round,
+            pval: line,
+        },
+        sent: TwoA { round, line },
     }
 }
 
@@ -81,44 +42,35 @@ pub fn offer(reading: Reading) -> Propose
 }
 
 // 6 prepare (2S).
-pub fn prepare(agent: u8, row: RackRow, message: TwoS) -> Prepared
-    ensures { result ≡ prepare_of agent row message }
+#[tactic(auto, unfolding(crate::specs::Steps::prepare_of, crate::specs::Steps::prepare_refusal, crate::specs::Steps::prepare_row))]
+pub fn prepare(agent: u8, row: RackRow, message: TwoS) -> Result<RackRow, Refusal>
+    ensures { noted_of row result ≡ prepare_of agent row message }
 {
-    let round = message.round;
-    let number = prepare_refusal(row.prnd, round);
-    if number == GRANTED {
-        let pval = own_line(message.page, agent);
-        Prepared {
-            refusal: GRANTED,
-            row: RackRow { prnd: round, pval },
-        }
-    } else {
-        Prepared {
-            refusal: number,
-            row,
-        }
-    }
+    Refusal::WrongRound.unless(message.round.compare(row.prnd).is_above())?;
+    Ok(RackRow {
+        prnd: message.round,
+        pval: own_line(message.page, agent),
+    })
 }
 
 // 7 fast (PROPOSE of any rack).
-pub fn fast(agent: u8, row: RackRow, message: Propose) -> Spoken
-    ensures { result ≡ fast_of agent row message }
+#[tactic(auto, unfolding(crate::specs::Steps::fast_of, crate::specs::Steps::fast_refusal))]
+pub fn fast(agent: u8, row: RackRow, message: Propose) -> Result<Granted<RackRow, TwoA>, Refusal>
+    ensures { answer_of row no_two_a result ≡ fast_of agent row message }
 {
-    let reading = message.reading;
-    let number = fast_refusal(agent, row.prnd, row.pval);
-    speak(
-        number,
-        row,
-        Line {
-            mark: Mark::Reading(reading),
-        },
-    )
+    Refusal::WrongRound.unless(has(row.prnd.cf, usize::from(agent)))?;
+    Refusal::AlreadyDone.unless(row.pval.is_absent())?;
+    Ok(speak(row, Line::of(message.reading)))
 }
 
 // 8 blank (2A with a reading).
-pub fn blank(agent: u8, row: RackRow, message: TwoA) -> Spoken
-    ensures { result ≡ blank_of agent row message }
+#[tactic(auto, unfolding(crate::specs::Steps::blank_of, crate::specs::Steps::blank_refusal))]
+pub fn blank(agent: u8, row: RackRow, message: TwoA) -> Result<Granted<RackRow, TwoA>, Refusal>
+    ensures { answer_of row no_two_a result ≡ blank_of agent row message }
 {
-    let number = blank_refusal(agent, row.prnd, row.pval, message.round, message.line);
-    speak(number, row, Line { mark: Mark::Nil })
+    let fits = message.round.compare(row.prnd).is_equal();
+    Refusal::WrongMessage.unless(message.line.is_reading())?;
+    Refusal::WrongRound.unless(fits && has(row.prnd.cf, usize::from(agent)))?;
+    Refusal::AlreadyDone.unless(row.pval.is_absent())?;
+    Ok(speak(row, Line::NIL))
 }

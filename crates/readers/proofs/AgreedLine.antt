@@ -1,21 +1,34 @@
 -- The line that enough of n boxes agree on, over any number of boxes and any lines: counting finds it exactly if there is one.
-use Rattle.std.proofs.Common.{ℕ, zero, suc, ◌≤◌, ◌<◌, arith, leb, leb-true, le-leb, ◌≡◌, refl, sym, ap, subst, ◌∙◌, Bool, true, false, not, ◌&&◌, true≢false, ⊎_elim}
+use Rattle.std.proofs.Common.{ℕ, zero, suc, ◌≤◌, ◌<◌, arith, leb, leb-true, le-leb, ◌≡◌, refl, sym, ap, subst, ◌∙◌, Bool, true, false, not, ◌&&◌, true≢false, ⊎_elim, List, length, get_or, Option, Some, None, Iter, Bor}
+use Rattle.std.specs.Fn.{CalledAt}
+use Rattle.std.specs.Iterator.{YieldsThen}
+use Rattle.std.specs.Iterator.Adapters.{copied_source}
+use Rattle.std.specs.List.{FoldsTo, AllWithin, HoldsAt}
+use Rattle.std.specs.Option.{MatchOption, IfSome, unwrap_or}
+use Rattle.std.specs.Slice.Iter.{iter_rest}
+use Rattle.std.specs.declared.iter.Copied.{Copied}
+use Rattle.std.proofs.iter.Yields.{fronts, copies}
+use Rattle.std.proofs.lemmas.Iterator.{YieldsList-from_slice, first_from_find}
+use Rattle.std.proofs.lemmas.Iterator.Consumers.{YieldsList-from_copied}
 use Rattle.std.proofs.Math.Decide.{dec_lt}
+use denote.Param.Members.{Mut}
 use borrow.Author.Tests.{not-true}
 use Rattle.std.proofs.Math.Bool.{false≢true}
 use Rattle.below.specs.Below.{any, count}
-use Rattle.below.proofs.Tests.{and_true, and_left, and_right, decided, below_suc, any_at, any_true, any_same, any_none, not_true_false}
+use Rattle.below.proofs.Tests.{and_true, and_left, and_right, decided, below_suc, any_at, any_true, any_same, any_none, any_false, not_true_false}
 use Rattle.below.proofs.Counts.{count_same, count_some, count_cut, counts_meet}
 use Rattle.pages.specs.declared.line.Mark.{Mark}
 use Rattle.pages.specs.declared.line.Mark.TheVariants.{Absent}
+use Rattle.pages.specs.declared.line.Line.{Line}
 use Rattle.pages.specs.Lines.{is_absent, prefix_mark}
+use Rattle.pages.specs.Pages.{line}
 use Rattle.pages.proofs.Lines.{prefix_present}
 use Rattle.rounds.specs.Setups.{majority_of}
 use Rattle.rounds.proofs.Majorities.{majorities_meet}
 use Rattle.readers.specs.Counting.{carrying, enough, first_line, agreed_line}
 
 -- the first line that passes
-pub first_left : (n : ℕ) (p : Mark → Bool) (lines : ℕ → Mark) (k : ℕ) → k < n → any k (λ b. p (lines b)) ≡ false → p (lines k) ≡ true →
+first_left : (n : ℕ) (p : Mark → Bool) (lines : ℕ → Mark) (k : ℕ) → k < n → any k (λ b. p (lines b)) ≡ false → p (lines k) ≡ true →
     first_line n p lines ≡ lines k
 unfolding first_line
 first_left zero p lines k l a h = absurd (omega arith)
@@ -29,7 +42,7 @@ first_left (suc n) p lines k l a h = ⊎_elim here (λ m. before m (first_left n
     before : k < n → first_line n p lines ≡ lines k → first_line (suc n) p lines ≡ lines k
     before m e = rw (any_true n (λ b. p (lines b)) k m h) e
 
-pub first_none : (n : ℕ) (p : Mark → Bool) (lines : ℕ → Mark) → any n (λ b. p (lines b)) ≡ false → first_line n p lines ≡ Absent
+first_none : (n : ℕ) (p : Mark → Bool) (lines : ℕ → Mark) → any n (λ b. p (lines b)) ≡ false → first_line n p lines ≡ Absent
 unfolding first_line
 first_none zero p lines a = refl
 first_none (suc n) p lines a =
@@ -38,6 +51,31 @@ first_none (suc n) p lines a =
     any_up : any n (λ b. p (lines b)) ≡ true → any (suc n) (λ b. p (lines b)) ≡ true
     any_up e = let w : (k : ℕ) × (k < n) × (p (lines k) ≡ true) = any_at n (λ b. p (lines b)) e in
         any_true (suc n) (λ b. p (lines b)) w.0 (omega (arith, w.1)) w.2
+
+-- what `iter().copied().find(f)` answers over n lines, where the closure answers p of its line, is the first line that passes
+module _ {F : Type 0} {g : Mut F (Bor Line × Unit {0}) Bool} {s : Copied (Iter Line)} {f : F} {xs : List Line} (u : Copied (Iter Line)) (n : ℕ) (p : Mark → Bool) (d : Line) (r : Option Line) where
+  pub line_found : ((ys : List Line) × (j : F) × YieldsThen (copies fronts) s ys r u × FoldsTo (λ c x q. CalledAt g c x false q) f ys j × IfSome r (λ x. (h : F) × CalledAt g j x true h)) →
+      iter_rest (copied_source s) ≡ xs → length xs ≡ n → ((x : Line) (b : Bool) (q : F) → CalledAt g f x b q → (q ≡ f) × (b ≡ p x.mark)) →
+      (unwrap_or r (line Absent)).mark ≡ first_line n p (λ b. (get_or xs b d).mark)
+  line_found ran source long tells =
+      go r (first_from_find u f r Passes Fails ran (YieldsList-from_copied (YieldsList-from_slice xs source))
+      (λ x q k. sym (tells x true q k).1) (λ x q k. ((tells x false q k).0, sym (tells x false q k).1)))
+    where
+      Passes : Line → Type 0
+      Passes l = p l.mark ≡ true
+
+      Fails : Line → Type 0
+      Fails l = p l.mark ≡ false
+
+      mark_at : ℕ → Mark
+      mark_at b = (get_or xs b d).mark
+
+      go : (o : Option Line) → MatchOption o (AllWithin Fails xs 0 (length xs)) (λ x. Passes x × (k : ℕ) × (k < length xs) × HoldsAt (λ y. y ≡ x) xs k × AllWithin Fails xs 0 k) →
+          (unwrap_or o (line Absent)).mark ≡ first_line n p mark_at
+      go None none = sym (first_none n p mark_at (any_false n (λ b. p (mark_at b)) (λ k l. none k d (omega arith) (omega (arith, long)))))
+      go (Some x) (passes, k, l, at, before) =
+          ap (λ (y : Line). y.mark) (sym (at d)) ∙
+          sym (first_left n p mark_at k (omega (arith, long)) (any_false k (λ b. p (mark_at b)) (λ j m. before j d (omega arith) m)) (ap (λ (y : Line). p y.mark) (at d) ∙ passes))
 
 first_passes : (n : ℕ) (p : Mark → Bool) (lines : ℕ → Mark) → any n (λ b. p (lines b)) ≡ true → p (first_line n p lines) ≡ true
 unfolding first_line any

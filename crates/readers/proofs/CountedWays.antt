@@ -16,9 +16,9 @@ use Rattle.rounds.specs.declared.round.Round.{Round}
 use Rattle.rounds.specs.Setups.{most_boxes, majority_of}
 use Rattle.records.specs.Slots.{held_at}
 use Rattle.records.specs.declared.rows.ReaderRow.{ReaderRow}
+use Rattle.records.specs.Answers.{Noted}
 use Rattle.readers.specs.declared.counting.HeldPages.{HeldPages}
 use Rattle.readers.specs.declared.counting.Column.{Column}
-use Rattle.readers.specs.declared.counting.Learnt.{Learnt}
 use Rattle.readers.specs.Notes.{refused}
 use Rattle.readers.specs.Learning.{held_in, blank_in}
 use Rattle.readers.specs.Counting.{agreed_line, held_page, held_pages, page_line, line_at, agreed_page, learnt_of, answered, counted_of}
@@ -55,7 +55,7 @@ agreed_page_is s r round {need} {blanks} {pages} p q h =
         ap (λ (x : Page). at (cond (held_in s r round b) x empty) k)
         (ap (λ (x : ℕ). nil_extension (has x) (held_at r b).page) q ∙ nil_set (blank_in r round) (held_at r b).page)
 
-pub counted_enough : (s : Setup) (r : ReaderRow) (round : Round) {need blanks : ℕ} {pages : HeldPages} {chosen : Page} {l : Learnt} →
+pub counted_enough : (s : Setup) (r : ReaderRow) (round : Round) {need blanks : ℕ} {pages : HeldPages} {chosen : Page} {l : Noted Page} →
     need ≡ majority_of s.boxes → blanks ≡ set_of most_racks (blank_in r round) → pages ≡ held_pages s r round (has blanks) → need ≤ pages.boxes →
     chosen ≡ page (λ k. agreed_line most_boxes need (page_line pages k)) → l ≡ learnt_of s.racks r.page chosen → answered r l ≡ counted_of s r round
 unfolding counted_of held_pages

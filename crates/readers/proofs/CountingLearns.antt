@@ -14,7 +14,7 @@ use Rattle.rounds.specs.declared.setup.Setup.{Setup}
 use Rattle.rounds.specs.declared.round.Round.{Round}
 use Rattle.rounds.specs.Setups.{most_boxes, majority_of}
 use Rattle.records.specs.declared.rows.ReaderRow.{ReaderRow}
-use Rattle.readers.specs.declared.answer.Noted.{Noted}
+use Rattle.records.specs.Answers.{Noted}
 use Rattle.readers.specs.Notes.{refused}
 use Rattle.readers.specs.Learning.{held_in, HeldMajority, Above, JoinsChosen, Learns, too_few, not_compatible, all_nil, learnt}
 use Rattle.readers.specs.Counting.{agreed_page, learnt_of, answered, counted_of}
@@ -72,8 +72,8 @@ module _ (s : Setup) (r : ReaderRow) (round : Round) where
           Learns s r round
           (cond a
           (answered r
-          (cond b (cond c (record { refusal = lines_clash; page = r.page }) (record { refusal = granted; page = joined }))
-          (record { refusal = lines_clash; page = r.page })))
+          (cond b (cond c (record { refusal = lines_clash; row = r.page }) (record { refusal = granted; row = joined }))
+          (record { refusal = lines_clash; row = r.page })))
           (refused no_majority r))
       go false b c p q t = too_few (λ among m. true≢false (sym (majority_held among m) ∙ p))
       go true false c p q t = not_compatible (held_in s r round) (held_majority p) (λ w a. true≢false (sym (above_compatible w a) ∙ q))
@@ -81,7 +81,7 @@ module _ (s : Setup) (r : ReaderRow) (round : Round) where
       go true true false p q t = learnt (held_in s r round) (held_majority p) joined (joined_joins q) t
 
   -- and nothing else has
-  pub learns_counted : (a : Noted) → Learns s r round a → a ≡ counted_of s r round
+  pub learns_counted : (a : Noted ReaderRow) → Learns s r round a → a ≡ counted_of s r round
   unfolding counted_of learnt_of
   learns_counted _ (too_few none) = sym (rw (not_true_false held_enough (λ e. none (held_in s r round) (held_majority e))))
   learns_counted _ (not_compatible among m none) =
@@ -91,7 +91,7 @@ module _ (s : Setup) (r : ReaderRow) (round : Round) where
       triv : trivial_of (racks_below s.racks) joined ≡ true
       triv = subst (λ (x : Page). trivial_of (racks_below s.racks) x ≡ true) (joins_is w j) t
   learns_counted _ (learnt among m w j t) =
-      ap (λ (x : Page). answered r (record { refusal = granted; page = x })) same ∙ sym (rw (majority_held among m, above_compatible w j.above, triv))
+      ap (λ (x : Page). answered r (record { refusal = granted; row = x })) same ∙ sym (rw (majority_held among m, above_compatible w j.above, triv))
     where
       same : w ≡ joined
       same = joins_is w j
@@ -100,8 +100,8 @@ module _ (s : Setup) (r : ReaderRow) (round : Round) where
       triv = subst (λ (x : Page). trivial_of (racks_below s.racks) x ≡ false) same t
 
   -- the property has one answer
-  pub learns_unique : (a b : Noted) → Learns s r round a → Learns s r round b → a ≡ b
+  pub learns_unique : (a b : Noted ReaderRow) → Learns s r round a → Learns s r round b → a ≡ b
   learns_unique a b p q = learns_counted a p ∙ sym (learns_counted b q)
 
-  pub learns_of : {a : Noted} → a ≡ counted_of s r round → Learns s r round a
+  pub learns_of : {a : Noted ReaderRow} → a ≡ counted_of s r round → Learns s r round a
   learns_of e = subst (Learns s r round) (sym e) counted_learns

@@ -19,7 +19,7 @@ use Rattle.records.specs.declared.messages.TwoA.{TwoA}
 use Rattle.records.specs.declared.messages.TwoB.{TwoB}
 use Rattle.records.specs.declared.rows.ReaderRow.{ReaderRow}
 use Rattle.records.specs.Slots.{held_at, blank_at}
-use Rattle.readers.specs.declared.answer.Noted.{Noted}
+use Rattle.records.specs.Answers.{Noted}
 use Rattle.readers.specs.Notes.{refused, by_order, same_round_refusal, note_vote_refusal, note_vote_row, note_vote_of, note_blank_refusal, note_blank_row, note_blank_of}
 
 -- granted by the order of the rounds: lower, or the same and granted there
@@ -72,7 +72,7 @@ note_vote_granted r box m h =
           (⊎_elim inl (λ d. inr (d.0, (longer d.1).0, (longer d.1).1))
           (by_order_lem (held_at r box).round m.round (same_round_refusal (held_at r box).page m.page) e)))
           (by_slot (held_at r box).filled _ number);
-      row_is = ap (λ (a : Noted). a.row) (answer_granted (note_vote_refusal (held_at r box) m) _ _ number);
+      row_is = ap (λ (a : Noted ReaderRow). a.row) (answer_granted (note_vote_refusal (held_at r box) m) _ _ number);
     }
   where
     longer : same_round_refusal (held_at r box).page m.page ≡ granted →
@@ -80,7 +80,7 @@ note_vote_granted r box m h =
     longer = strictly_longer (held_at r box).page m.page
 
     number : note_vote_refusal (held_at r box) m ≡ granted
-    number = sym (answer_number (λ (a : Noted). a.refusal) (note_vote_refusal (held_at r box) m) _ _ refl refl) ∙ h
+    number = sym (answer_number (λ (a : Noted ReaderRow). a.refusal) (note_vote_refusal (held_at r box) m) _ _ refl refl) ∙ h
 
 pub note_vote_refused : (r : ReaderRow) (box : ℕ) (m : TwoB) → (note_vote_refusal (held_at r box) m ≡ granted → ⊥) →
     note_vote_of r box m ≡ refused (note_vote_refusal (held_at r box) m) r
@@ -109,11 +109,11 @@ note_blank_granted r rack m h =
       newer =
           ⊎_elim inl (λ e. inr (⊎_elim (λ l. l) (λ d. absurd (omega (arith, d.1))) (by_order_lem (blank_at r rack).round m.round already_done e)))
           (by_slot (blank_at r rack).filled _ (unless_later (is_nil m.line.mark) wrong_message _ (omega arith) number));
-      row_is = ap (λ (a : Noted). a.row) (answer_granted (note_blank_refusal (blank_at r rack) m) _ _ number);
+      row_is = ap (λ (a : Noted ReaderRow). a.row) (answer_granted (note_blank_refusal (blank_at r rack) m) _ _ number);
     }
   where
     number : note_blank_refusal (blank_at r rack) m ≡ granted
-    number = sym (answer_number (λ (a : Noted). a.refusal) (note_blank_refusal (blank_at r rack) m) _ _ refl refl) ∙ h
+    number = sym (answer_number (λ (a : Noted ReaderRow). a.refusal) (note_blank_refusal (blank_at r rack) m) _ _ refl refl) ∙ h
 
 pub note_blank_refused : (r : ReaderRow) (rack : ℕ) (m : TwoA) → (note_blank_refusal (blank_at r rack) m ≡ granted → ⊥) →
     note_blank_of r rack m ≡ refused (note_blank_refusal (blank_at r rack) m) r

@@ -15,7 +15,7 @@ use Rattle.rounds.specs.declared.setup.Setup.{Setup}
 use Rattle.rounds.specs.declared.round.Round.{Round}
 use Rattle.rounds.specs.Setups.{most_boxes, majority_of}
 use Rattle.records.specs.declared.rows.ReaderRow.{ReaderRow}
-use Rattle.readers.specs.declared.answer.Noted.{Noted}
+use Rattle.records.specs.Answers.{Noted}
 use Rattle.readers.specs.Learning.{extended, HeldMajority, JoinsChosen, with_page, Learns, too_few, not_compatible, all_nil, learnt}
 use Rattle.readers.specs.Counting.{agreed_page}
 use Rattle.readers.proofs.HeldAtRound.{held_at_round}
@@ -63,20 +63,20 @@ module _ (s : Setup) (r : ReaderRow) (round : Round) where
       subst (λ (x : ℕ). majority_of s.boxes ≤ x) (count_cut most_boxes s.boxes among l (λ b lb h. (held_at_round s r round b (m.held b lb h)).exists)) m.enough
 
   -- 13 learn, granted
-  pub record LearnGranted (a : Noted) : Type 0 where
+  pub record LearnGranted (a : Noted ReaderRow) : Type 0 where
     pub w : Page
     pub joins : JoinsChosen s r round w
     pub not_trivial : trivial_of (racks_below s.racks) w ≡ false
     pub row_is : a.row ≡ with_page r w
 
-  pub learn_granted : (a : Noted) → Learns s r round a → a.refusal ≡ granted → LearnGranted a
+  pub learn_granted : (a : Noted ReaderRow) → Learns s r round a → a.refusal ≡ granted → LearnGranted a
   learn_granted _ (too_few none) h = absurd (omega arith)
   learn_granted _ (not_compatible among m none) h = absurd (omega arith)
   learn_granted _ (all_nil among m w j t) h = absurd (omega arith)
   learn_granted _ (learnt among m w j t) h = record { w = w; joins = j; not_trivial = t; row_is = refl }
 
   -- so each line of the page after a granted learn is the reader's old one, or one of a majority
-  pub granted_lines : (a : Noted) → Learns s r round a → a.refusal ≡ granted → (k : ℕ) → k < most_racks → is_absent (at a.row.page k) ≡ false →
+  pub granted_lines : (a : Noted ReaderRow) → Learns s r round a → a.refusal ≡ granted → (k : ℕ) → k < most_racks → is_absent (at a.row.page k) ≡ false →
       (at r.page k ≡ at a.row.page k) ⊎ MajorityLine s r round k (at a.row.page k)
   granted_lines a learns h k l p =
       subst (λ (w : Page). (at r.page k ≡ at w k) ⊎ MajorityLine s r round k (at w k)) (sym page_is)
@@ -88,7 +88,7 @@ module _ (s : Setup) (r : ReaderRow) (round : Round) where
       page_is : a.row.page ≡ facts.w
       page_is = ap (λ (x : ReaderRow). x.page) facts.row_is
 
-  pub learn_refused : (a : Noted) → Learns s r round a → (a.refusal ≡ granted → ⊥) → a.row ≡ r
+  pub learn_refused : (a : Noted ReaderRow) → Learns s r round a → (a.refusal ≡ granted → ⊥) → a.row ≡ r
   learn_refused _ (too_few none) h = refl
   learn_refused _ (not_compatible among m none) h = refl
   learn_refused _ (all_nil among m w j t) h = refl

@@ -21,7 +21,7 @@ use Rattle.records.specs.declared.messages.TwoB.{TwoB}
 use Rattle.records.specs.declared.rows.ReaderRow.{ReaderRow}
 use Rattle.records.specs.Slots.{no_round, held_at, blank_at}
 use Rattle.records.specs.Rules.{page_rules, nothing_held, held_rules, blank_rules, all_held, all_blanks, two_a_rules, two_b_rules, reader_rules}
-use Rattle.readers.specs.declared.answer.Noted.{Noted}
+use Rattle.records.specs.Answers.{Noted}
 use Rattle.readers.specs.Notes.{note_vote_row, note_vote_of, note_blank_row, note_blank_of}
 use Rattle.readers.specs.Learning.{held_in, blank_in, extended, with_page, Learns}
 use Rattle.readers.proofs.GrantedNotes.{note_vote_granted, note_vote_held, note_blank_granted, note_blank_held}
@@ -152,7 +152,7 @@ good_line : (s : Setup) (p : Page) → page_rules s p ≡ true → (k : ℕ) →
 good_line s p h k l = (within_absent (racks_below s.racks) p h k l, within_range (racks_below s.racks) p h k l)
 
 -- 13 learn
-pub learn_keeps : (s : Setup) (agent : ℕ) (r : ReaderRow) (round : Round) (a : Noted) → reader_rules s agent r ≡ true → Learns s r round a →
+pub learn_keeps : (s : Setup) (agent : ℕ) (r : ReaderRow) (round : Round) (a : Noted ReaderRow) → reader_rules s agent r ≡ true → Learns s r round a →
     a.refusal ≡ granted → reader_rules s agent a.row ≡ true
 unfolding held_at blank_at
 learn_keeps s agent r round a rules learns h =

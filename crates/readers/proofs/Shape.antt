@@ -12,7 +12,7 @@ use Rattle.records.specs.declared.messages.TwoA.{TwoA}
 use Rattle.records.specs.declared.messages.TwoB.{TwoB}
 use Rattle.records.specs.declared.rows.ReaderRow.{ReaderRow}
 use Rattle.records.specs.Slots.{held_at, blank_at}
-use Rattle.readers.specs.declared.answer.Noted.{Noted}
+use Rattle.records.specs.Answers.{Noted}
 use Rattle.readers.specs.Notes.{noted, note_vote_refusal, note_vote_row, note_vote_of, note_blank_refusal, note_blank_row, note_blank_of}
 use Rattle.readers.specs.Learning.{Learns, too_few, not_compatible, all_nil, learnt}
 
@@ -25,7 +25,7 @@ pub record ReaderShape (r : ReaderRow) : Type 0 where
 noted_shape : (number : ℕ) (r after : ReaderRow) → ReaderShape r → ReaderShape after → ReaderShape (noted number r after).row
 noted_shape number r after h k = go (eqb number granted)
   where
-    go : (b : Bool) → ReaderShape (cond {A = Noted} b (record { refusal = granted; row = after }) (record { refusal = number; row = r })).row
+    go : (b : Bool) → ReaderShape (cond {A = Noted ReaderRow} b (record { refusal = granted; row = after }) (record { refusal = number; row = r })).row
     go true = k
     go false = h
 
@@ -42,7 +42,7 @@ note_blank_shape r rack m h =
     (record { lines = h.lines; held = h.held; blanks = length-set r.blanks rack _ ∙ h.blanks })
 
 -- the page that is joined has all its lines
-pub learn_shape : (s : Setup) (r : ReaderRow) (round : Round) (a : Noted) → Learns s r round a → ReaderShape r → ReaderShape a.row
+pub learn_shape : (s : Setup) (r : ReaderRow) (round : Round) (a : Noted ReaderRow) → Learns s r round a → ReaderShape r → ReaderShape a.row
 unfolding page
 learn_shape s r round _ (too_few none) h = h
 learn_shape s r round _ (not_compatible among m none) h = h

@@ -13,10 +13,9 @@ use Rattle.rounds.specs.declared.round.Round.{Round}
 use Rattle.rounds.specs.Setups.{most_boxes, majority_of}
 use Rattle.records.specs.Slots.{held_at}
 use Rattle.records.specs.declared.rows.ReaderRow.{ReaderRow}
-use Rattle.readers.specs.declared.answer.Noted.{Noted}
+use Rattle.records.specs.Answers.{Noted}
 use Rattle.readers.specs.declared.counting.HeldPages.{HeldPages}
 use Rattle.readers.specs.declared.counting.Column.{Column}
-use Rattle.readers.specs.declared.counting.Learnt.{Learnt}
 use Rattle.readers.specs.Learning.{held_in, blank_in, with_page}
 use Rattle.readers.specs.Notes.{refused}
 
@@ -57,18 +56,18 @@ unfoldable pub agreed_page : Setup → ReaderRow → Round → Page
 agreed_page s r round = page (λ k. agreed_line most_boxes (majority_of s.boxes) (λ b. at (held_page s r round (blank_in r round) b) k))
 
 -- joined with the reader's page: 9 if not compatible or if the result is trivial
-unfoldable pub learnt_of : ℕ → Page → Page → Learnt
+unfoldable pub learnt_of : ℕ → Page → Page → Noted Page
 learnt_of racks own chosen =
     cond (compatible_of own chosen)
-    (cond (trivial_of (racks_below racks) (union_of own chosen)) (record { refusal = lines_clash; page = own })
-    (record { refusal = granted; page = union_of own chosen }))
-    (record { refusal = lines_clash; page = own })
+    (cond (trivial_of (racks_below racks) (union_of own chosen)) (record { refusal = lines_clash; row = own })
+    (record { refusal = granted; row = union_of own chosen }))
+    (record { refusal = lines_clash; row = own })
 
 -- what learn answers, by counting
-abbrev pub answered : ReaderRow → Learnt → Noted
-answered r l = record { refusal = l.refusal; row = with_page r l.page }
+abbrev pub answered : ReaderRow → Noted Page → Noted ReaderRow
+answered r l = record { refusal = l.refusal; row = with_page r l.row }
 
-unfoldable pub counted_of : Setup → ReaderRow → Round → Noted
+unfoldable pub counted_of : Setup → ReaderRow → Round → Noted ReaderRow
 counted_of s r round =
     cond (leb (majority_of s.boxes) (count most_boxes (held_in s r round))) (answered r (learnt_of s.racks r.page (agreed_page s r round)))
     (refused no_majority r)

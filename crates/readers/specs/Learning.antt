@@ -13,7 +13,7 @@ use Rattle.rounds.specs.Setups.{most_boxes, majority_of}
 use Rattle.rounds.specs.Rounds.{same_round}
 use Rattle.records.specs.Slots.{held_at, blank_at}
 use Rattle.records.specs.declared.rows.ReaderRow.{ReaderRow}
-use Rattle.readers.specs.declared.answer.Noted.{Noted}
+use Rattle.records.specs.Answers.{Noted}
 use Rattle.readers.specs.Notes.{refused}
 
 -- a box held at exactly that round
@@ -54,7 +54,7 @@ abbrev pub with_page : ReaderRow → Page → ReaderRow
 with_page r w = record { page = w; held = r.held; blanks = r.blanks }
 
 -- what learn answers
-pub data Learns (s : Setup) (r : ReaderRow) (round : Round) : Noted → Type 0 where
+pub data Learns (s : Setup) (r : ReaderRow) (round : Round) : Noted ReaderRow → Type 0 where
   too_few : ((among : ℕ → Bool) → HeldMajority s r round among → ⊥) → Learns s r round (refused no_majority r)
   not_compatible : (among : ℕ → Bool) → HeldMajority s r round among → ((w : Page) → Above s r round w → ⊥) →
       Learns s r round (refused lines_clash r)

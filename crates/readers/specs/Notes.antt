@@ -13,13 +13,13 @@ use Rattle.records.specs.declared.messages.TwoB.{TwoB}
 use Rattle.records.specs.declared.slots.Held.{Held}
 use Rattle.records.specs.declared.slots.Blank.{Blank}
 use Rattle.records.specs.declared.rows.ReaderRow.{ReaderRow}
-use Rattle.readers.specs.declared.answer.Noted.{Noted}
+use Rattle.records.specs.Answers.{Noted}
 
 -- a refused step leaves the row as it was
-abbrev pub refused : ℕ → ReaderRow → Noted
+abbrev pub refused : ℕ → ReaderRow → Noted ReaderRow
 refused number row = record { refusal = number; row = row }
 
-abbrev pub noted : ℕ → ReaderRow → ReaderRow → Noted
+abbrev pub noted : ℕ → ReaderRow → ReaderRow → Noted ReaderRow
 noted number row after = cond (eqb number granted) (record { refusal = granted; row = after }) (refused number row)
 
 -- by the order of the held round to the message's: a lower one is replaced, a higher one or a clash is 6
@@ -42,7 +42,7 @@ unfoldable pub note_vote_row : ReaderRow → ℕ → TwoB → ReaderRow
 note_vote_row r box m =
     record { page = r.page; held = set r.held box (record { filled = true; round = m.round; page = m.page }); blanks = r.blanks }
 
-unfoldable pub note_vote_of : ReaderRow → ℕ → TwoB → Noted
+unfoldable pub note_vote_of : ReaderRow → ℕ → TwoB → Noted ReaderRow
 note_vote_of r box m = noted (note_vote_refusal (held_at r box) m) r (note_vote_row r box m)
 
 -- 12 note blank (2A with Nil, of `rack`): per rack one round is held; the first is kept, higher replaces, equal 7, lower 6
@@ -54,5 +54,5 @@ note_blank_refusal held m =
 unfoldable pub note_blank_row : ReaderRow → ℕ → TwoA → ReaderRow
 note_blank_row r rack m = record { page = r.page; held = r.held; blanks = set r.blanks rack (record { filled = true; round = m.round }) }
 
-unfoldable pub note_blank_of : ReaderRow → ℕ → TwoA → Noted
+unfoldable pub note_blank_of : ReaderRow → ℕ → TwoA → Noted ReaderRow
 note_blank_of r rack m = noted (note_blank_refusal (blank_at r rack) m) r (note_blank_row r rack m)

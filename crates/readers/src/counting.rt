@@ -1,26 +1,26 @@
 // Learn, by counting. A page is chosen if it is a prefix of all extended pages of some majority; so
 // the chosen pages joined have, per rack, the line that a majority of the held boxes' pages agree
 // on. Two majorities share a box, so there is at most one such line.
-ghost use Rattle.std.specs.Prelude.{◌≡◌, cond, ◌&&◌};
+ghost use Rattle.std.specs.Prelude.{◌≡◌};
 ghost use Rattle.below.specs.Below.{row};
 ghost use Rattle.pages.specs.Racks.{has, most_racks, set_of};
-ghost use Rattle.pages.specs.Pages.{line, page, empty, nil_extension};
-ghost use Rattle.rounds.specs.Rounds.{same_round};
+ghost use Rattle.pages.specs.Pages.{line, page};
 ghost use Rattle.rounds.specs.Setups.{most_boxes};
-ghost use Rattle.readers.specs.Learning.{blank_in};
+ghost use Rattle.records.specs.Answers.{noted_of};
+ghost use Rattle.readers.specs.Learning.{held_in, blank_in};
 ghost use Rattle.readers.specs.Counting.{carrying, enough, agreed_line, held_pages, line_at, page_line, learnt_of, counted_of};
 
-use crate::answer::Noted;
-use below::{GRANTED, LINES_CLASH, NO_MAJORITY, both, one_if};
-use pages::{Line, Mark, Page, RACKS, below_all, has};
+use below::Refusal;
+use pages::{Line, Page, RACKS, below_all, has};
 use records::{BOXES, ReaderRow};
 use rounds::{Round, Setup};
+use std::array;
 
 // How many boxes are held at exactly the round, and their pages, Nil-extended; the empty page for a
 // box that is not.
 #[derive(Clone, Copy)]
 struct HeldPages {
-    boxes: u8,
+    boxes: usize,
     pages: [Page; BOXES],
 }
 
@@ -30,163 +30,127 @@ struct Column {
     lines: [Line; BOXES],
 }
 
-// The refusal, and the page to go on with.
-#[derive(Clone, Copy)]
-struct Learnt {
-    refusal: u8,
-    page: Page,
-}
-
-// Whether the slot of a box or rack that counts holds exactly this round.
-fn holds(counts: bool, filled: bool, held: Round, round: Round) -> bool
-    ensures { result ≡ counts && filled && same_round held round }
+// Whether a box is held at exactly this round.
+#[tactic(auto, unfolding(records::specs::Slots::held_at))]
+fn is_held(setup: Setup, row: ReaderRow, round: Round, place: usize) -> bool
+    ensures { result ≡ held_in setup row round place }
 {
-    both(both(counts, filled), held.same(round))
+    place < usize::from(setup.boxes)
+        && row
+            .held
+            .get(place)
+            .is_some_and(|slot| slot.filled && slot.round == round)
 }
 
-// The racks of cf held blank at exactly the round.
+// Whether a rack is of cf and held blank at exactly this round.
+#[tactic(auto, unfolding(records::specs::Slots::blank_at))]
+fn is_blank(row: ReaderRow, round: Round, rack: usize) -> bool
+    ensures { result ≡ blank_in row round rack }
+{
+    has(round.cf, rack)
+        && row
+            .blanks
+            .get(rack)
+            .is_some_and(|slot| slot.filled && slot.round == round)
+}
+
+// The racks of cf held blank at exactly the round, as bits, so from the highest rack down.
+#[tactic(auto, using(pages::proofs::Sets::set_start, crate::proofs::Ways::set_turn, pages::proofs::Sets::set_ends))]
 fn blank_racks(row: ReaderRow, round: Round) -> u8
     ensures { result ≡ set_of most_racks (blank_in row round) }
 {
     let mut set: u8 = 0;
-    let mut rack = RACKS;
-    while 0 < rack {
-        rack -= 1;
-        let slot = row.blanks[rack];
-        let blank = holds(has(round.cf, rack), slot.filled, slot.round, round);
-        set = below_all(set, blank);
+    for rack in (0..RACKS).rev() {
+        set = below_all(set, is_blank(row, round, rack));
     }
     set
 }
 
-fn extended_if(held: bool, page: Page, blanks: u8) -> Page
-    ensures { result ≡ cond held (nil_extension (has blanks) page) empty }
-{
-    if held {
-        page.nil_extension(blanks)
-    } else {
-        Page::EMPTY
-    }
-}
-
+// By box number: whether a box counts is told by its number.
 fn held_pages(setup: Setup, row: ReaderRow, round: Round, blanks: u8) -> HeldPages
     ensures { result ≡ held_pages setup row round (has blanks) }
 {
-    let mut boxes: u8 = 0;
-    let mut pages = [Page::EMPTY; BOXES];
-    for b in 0..BOXES {
-        let slot = row.held[b];
-        let held = holds(b < setup.boxes as usize, slot.filled, slot.round, round);
-        boxes += one_if(held);
-        pages[b] = extended_if(held, slot.page, blanks);
+    HeldPages {
+        boxes: (0..BOXES)
+            .filter(|b| is_held(setup, row, round, *b))
+            .count(),
+        pages: array::from_fn(|b| {
+            if is_held(setup, row, round, b) {
+                row.held[b].page.nil_extension(blanks)
+            } else {
+                Page::EMPTY
+            }
+        }),
     }
-    HeldPages { boxes, pages }
 }
 
 impl Column {
     fn of(held: HeldPages, rack: usize) -> Column
         ensures { result.lines ≡ row most_boxes (λ b. line (page_line held rack b)) }
     {
-        let mut lines = [Line { mark: Mark::Absent }; BOXES];
-        for b in 0..BOXES {
-            let page = held.pages[b];
-            lines[b] = page.at(rack);
+        Column {
+            lines: array::from_fn(|b| held.pages[b].at(rack)),
         }
-        Column { lines }
     }
 
     // How many boxes' pages have this line.
-    fn carrying(self, line: Line) -> u8
+    fn carrying(self, line: Line) -> usize
         ensures { result ≡ carrying most_boxes (line_at self) line.mark }
     {
-        let mut total: u8 = 0;
-        for b in 0..BOXES {
-            let theirs = self.lines[b];
-            total += one_if(line.prefix_of(theirs));
-        }
-        total
+        self.lines
+            .iter()
+            .filter(|theirs| line.prefix_of(**theirs))
+            .count()
     }
 
     // Whether this is a line, and enough boxes' pages have it.
-    fn enough(self, need: u8, line: Line) -> bool
+    #[tactic(auto, unfolding(crate::specs::Counting::enough))]
+    fn enough(self, need: usize, line: Line) -> bool
         ensures { result ≡ enough most_boxes need (line_at self) line.mark }
     {
-        if line.is_absent() {
-            false
-        } else {
-            need <= self.carrying(line)
-        }
+        !line.is_absent() && need <= self.carrying(line)
     }
 
     // The line that enough boxes' pages have, absent if there is none.
-    fn agreed(self, need: u8) -> Line
+    fn agreed(self, need: usize) -> Line
         ensures { result.mark ≡ agreed_line most_boxes need (line_at self) }
     {
-        for b in 0..BOXES {
-            let line = self.lines[b];
-            if self.enough(need, line) {
-                return line;
-            }
-        }
-        Line { mark: Mark::Absent }
+        self.lines
+            .iter()
+            .copied()
+            .find(|line| self.enough(need, *line))
+            .unwrap_or(Line::ABSENT)
     }
 }
 
-fn agreed_page(held: HeldPages, need: u8) -> Page
+fn agreed_page(held: HeldPages, need: usize) -> Page
     ensures { result ≡ page (λ k. agreed_line most_boxes need (page_line held k)) }
 {
-    let mut page = Page::EMPTY;
-    for k in 0..RACKS {
-        page.lines[k] = Column::of(held, k).agreed(need);
+    Page {
+        lines: array::from_fn(|k| Column::of(held, k).agreed(need)),
     }
-    page
 }
 
 // The reader's page joined with all chosen pages: 9 if not compatible or if the result is trivial.
-fn join_chosen(racks: u8, page: Page, chosen: Page) -> Learnt
-    ensures { result ≡ learnt_of racks page chosen }
+#[tactic(auto, unfolding(crate::specs::Counting::learnt_of))]
+fn join_chosen(racks: u8, page: Page, chosen: Page) -> Result<Page, Refusal>
+    ensures { noted_of page result ≡ learnt_of racks page chosen }
 {
-    if page.compatible(chosen) {
-        let joined = page.union(chosen);
-        if joined.trivial(racks) {
-            Learnt {
-                refusal: LINES_CLASH,
-                page,
-            }
-        } else {
-            Learnt {
-                refusal: GRANTED,
-                page: joined,
-            }
-        }
-    } else {
-        Learnt {
-            refusal: LINES_CLASH,
-            page,
-        }
-    }
+    Refusal::LinesClash.unless(page.compatible(chosen))?;
+    let joined = page.union(chosen);
+    Refusal::LinesClash.unless(!joined.trivial(racks))?;
+    Ok(joined)
 }
 
-pub fn counted(setup: Setup, row: ReaderRow, round: Round) -> Noted
-    ensures { result ≡ counted_of setup row round }
+#[tactic(auto, using(crate::proofs::CountedWays::counted_few))]
+pub fn counted(setup: Setup, row: ReaderRow, round: Round) -> Result<ReaderRow, Refusal>
+    ensures { noted_of row result ≡ counted_of setup row round }
 {
-    let need = setup.majority();
+    let need = usize::from(setup.majority());
     let blanks = blank_racks(row, round);
     let pages = held_pages(setup, row, round, blanks);
-    if need <= pages.boxes {
-        let chosen = agreed_page(pages, need);
-        let learnt = join_chosen(setup.racks, row.page, chosen);
-        let page = learnt.page;
-        let held = row.held;
-        let blanks = row.blanks;
-        Noted {
-            refusal: learnt.refusal,
-            row: ReaderRow { page, held, blanks },
-        }
-    } else {
-        Noted {
-            refusal: NO_MAJORITY,
-            row,
-        }
-    }
+    Refusal::NoMajority.unless(need <= pages.boxes)?;
+    let chosen = agreed_page(pages, need);
+    let page = join_chosen(setup.racks, row.page, chosen)?;
+    Ok(ReaderRow { page, ..row })
 }

@@ -1,132 +1,77 @@
 // Note vote and note blank.
 ghost use Rattle.std.specs.Prelude.{◌≡◌};
-ghost use Rattle.below.specs.Refusals.{already_done};
-ghost use Rattle.readers.specs.Notes.{by_order, same_round_refusal, note_vote_refusal, note_vote_of, note_blank_refusal, note_blank_of};
+ghost use Rattle.below.specs.Refusals.{number_of};
+ghost use Rattle.records.specs.Answers.{noted_of};
+ghost use Rattle.readers.specs.Notes.{by_order, same_round_refusal, note_vote_of, note_blank_of};
 
-use crate::answer::Noted;
-use below::{ALREADY_DONE, GRANTED, LINES_CLASH, WRONG_MESSAGE, WRONG_ROUND, unless};
+use below::Refusal;
 use pages::{Page, RACKS};
 use records::{BOXES, Blank, Held, ReaderRow, TwoA, TwoB};
 use rounds::Order;
 
-fn same_round_refusal(held: Page, page: Page) -> u8
-    ensures { result ≡ same_round_refusal held page }
-{
-    let extends = unless(held.prefix_of(page), LINES_CLASH, GRANTED);
-    unless(!page.prefix_of(held), ALREADY_DONE, extends)
-}
-
-fn vote_by_order(order: Order, held: Page, page: Page) -> u8
-    ensures { result ≡ by_order order (same_round_refusal held page) }
+// By the order of the held round to the message's: a lower one is replaced, a higher one or a clash
+// is 6, and `same` says what the same round is.
+fn by_order(order: Order, same: Result<(), Refusal>) -> Result<(), Refusal>
+    ensures { number_of result ≡ by_order order (number_of same) }
 {
     match order {
-        Order::Below => GRANTED,
-        Order::Equal => same_round_refusal(held, page),
-        Order::Above => WRONG_ROUND,
-        Order::Clash => WRONG_ROUND,
+        Order::Below => Ok(()),
+        Order::Equal => same,
+        Order::Above | Order::Clash => Err(Refusal::WrongRound),
     }
 }
 
-fn vote_refusal(held: Held, message: TwoB) -> u8
-    ensures { result ≡ note_vote_refusal held message }
+// In the same round only a strict extension replaces.
+fn extends(held: Page, page: Page) -> Result<(), Refusal>
+    ensures { number_of result ≡ same_round_refusal held page }
 {
-    if held.filled {
-        vote_by_order(held.round.compare(message.round), held.page, message.page)
-    } else {
-        GRANTED
-    }
+    Refusal::AlreadyDone.unless(!page.prefix_of(held))?;
+    Refusal::LinesClash.unless(held.prefix_of(page))
 }
 
-// 11 note vote (2B of the box).
-pub fn note_vote(row: ReaderRow, place: u8, message: TwoB) -> Noted
-    ensures { result ≡ note_vote_of row place message }
+// 11 note vote (2B of the box). Of a box that no row has a slot for there is nothing to hold.
+#[tactic(auto, unfolding(crate::specs::Notes::note_vote_of, crate::specs::Notes::note_vote_row, crate::specs::Notes::note_vote_refusal, records::specs::Slots::held_at))]
+pub fn note_vote(row: ReaderRow, place: u8, message: TwoB) -> Result<ReaderRow, Refusal>
+    ensures { noted_of row result ≡ note_vote_of row place message }
 {
-    let slot = place as usize;
-    if slot < BOXES {
-        let number = vote_refusal(row.held[slot], message);
-        if number == GRANTED {
-            let round = message.round;
-            let page = message.page;
-            let mut after = row;
-            after.held[slot] = Held {
-                filled: true,
-                round,
-                page,
-            };
-            Noted {
-                refusal: GRANTED,
-                row: after,
-            }
-        } else {
-            Noted {
-                refusal: number,
-                row,
-            }
+    let place = usize::from(place);
+    let mut after = row;
+    if place < BOXES {
+        let held = row.held[place];
+        if held.filled {
+            let order = held.round.compare(message.round);
+            by_order(order, extends(held.page, message.page))?;
         }
-    } else {
-        // No box has this number: there is nothing to hold.
-        Noted {
-            refusal: GRANTED,
-            row,
-        }
+        // By index: nothing is known of a row after `get_mut` lent a slot of it.
+        after.held[place] = Held {
+            filled: true,
+            round: message.round,
+            page: message.page,
+        };
     }
+    Ok(after)
 }
 
-fn blank_by_order(order: Order) -> u8
-    ensures { result ≡ by_order order already_done }
+// 12 note blank (2A with Nil, of the rack). Of a rack that no row has a slot for there is nothing to
+// hold.
+#[tactic(auto, unfolding(crate::specs::Notes::note_blank_of, crate::specs::Notes::note_blank_row, crate::specs::Notes::note_blank_refusal, records::specs::Slots::blank_at))]
+pub fn note_blank(row: ReaderRow, rack: u8, message: TwoA) -> Result<ReaderRow, Refusal>
+    ensures { noted_of row result ≡ note_blank_of row rack message }
 {
-    match order {
-        Order::Below => GRANTED,
-        Order::Equal => ALREADY_DONE,
-        Order::Above => WRONG_ROUND,
-        Order::Clash => WRONG_ROUND,
-    }
-}
-
-fn blank_refusal(blank: Blank, message: TwoA) -> u8
-    ensures { result ≡ note_blank_refusal blank message }
-{
-    if message.line.is_nil() {
+    let rack = usize::from(rack);
+    let mut after = row;
+    Refusal::WrongMessage.unless(message.line.is_nil())?;
+    if rack < RACKS {
+        let blank = row.blanks[rack];
         if blank.filled {
-            blank_by_order(blank.round.compare(message.round))
-        } else {
-            GRANTED
+            let order = blank.round.compare(message.round);
+            by_order(order, Err(Refusal::AlreadyDone))?;
         }
-    } else {
-        WRONG_MESSAGE
+        // By index, as in note vote.
+        after.blanks[rack] = Blank {
+            filled: true,
+            round: message.round,
+        };
     }
-}
-
-// 12 note blank (2A with Nil, of the rack).
-pub fn note_blank(row: ReaderRow, rack: u8, message: TwoA) -> Noted
-    ensures { result ≡ note_blank_of row rack message }
-{
-    let slot = rack as usize;
-    if slot < RACKS {
-        let number = blank_refusal(row.blanks[slot], message);
-        if number == GRANTED {
-            let round = message.round;
-            let mut after = row;
-            after.blanks[slot] = Blank {
-                filled: true,
-                round,
-            };
-            Noted {
-                refusal: GRANTED,
-                row: after,
-            }
-        } else {
-            Noted {
-                refusal: number,
-                row,
-            }
-        }
-    } else {
-        // No rack has this number: there is nothing to hold.
-        let number = blank_refusal(Blank::EMPTY, message);
-        Noted {
-            refusal: number,
-            row,
-        }
-    }
+    Ok(after)
 }

@@ -1,2 +1,3 @@
 pub mod Unique
 pub mod RuleParts
+pub mod Answers

@@ -1,2 +1,3 @@
 pub mod Slots
 pub mod Rules
+pub mod Answers

@@ -5,12 +5,14 @@
 // a step makes of it.
 #![tactic(auto)]
 
+mod granted;
 mod messages;
 mod rows;
 mod slots;
 mod stamp;
 mod votes;
 
+pub use granted::Granted;
 pub use messages::{OneA, OneB, Propose, TwoA, TwoB, TwoS};
 pub use rows::{BOXES, BoxRow, CoordinatorRow, Head, RackRow, ReaderRow};
 pub use slots::{Blank, Heard, Held, NO_ROUND};

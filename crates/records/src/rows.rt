@@ -4,7 +4,6 @@ ghost use Rattle.records.specs.Rules.{head_rules, coordinator_rules, box_rules, 
 
 use crate::slots::{Blank, Heard, Held};
 use crate::votes::{last_rules, opened_rules};
-use below::{both, either};
 use pages::{Line, Page, RACKS, Vote};
 use rounds::{Round, Setup};
 
@@ -12,12 +11,12 @@ use rounds::{Round, Setup};
 pub const BOXES: usize = 5;
 
 // How many messages the post holds.
-#[derive(Clone, Copy)]
+#[derive(Clone, Copy, Debug, PartialEq, Eq)]
 pub struct Head {
     pub count: u16,
 }
 
-#[derive(Clone, Copy)]
+#[derive(Clone, Copy, Debug, PartialEq, Eq)]
 pub struct CoordinatorRow {
     pub crnd: Round,
     pub cval: Vote,
@@ -25,21 +24,21 @@ pub struct CoordinatorRow {
     pub heard: [Heard; BOXES],
 }
 
-#[derive(Clone, Copy)]
+#[derive(Clone, Copy, Debug, PartialEq, Eq)]
 pub struct BoxRow {
     pub rnd: Round,
     pub vrnd: Round,
     pub vval: Vote,
 }
 
-#[derive(Clone, Copy)]
+#[derive(Clone, Copy, Debug, PartialEq, Eq)]
 pub struct RackRow {
     pub prnd: Round,
     // Absent where pval is none.
     pub pval: Line,
 }
 
-#[derive(Clone, Copy)]
+#[derive(Clone, Copy, Debug, PartialEq, Eq)]
 pub struct ReaderRow {
     pub page: Page,
     // One slot per box.
@@ -52,6 +51,7 @@ impl Head {
     // The post has room for this many messages.
     pub const MOST: u16 = 96;
 
+    #[tactic(auto, unfolding(crate::specs::Rules::head_rules))]
     pub fn rules(self, setup: Setup, agent: u8) -> bool
         ensures { result ≡ head_rules setup agent self }
     {
@@ -63,47 +63,40 @@ impl CoordinatorRow {
     fn heard_rules(self, setup: Setup) -> bool
         ensures { result ≡ all_heard setup self }
     {
-        let crnd = self.crnd;
-        for k in 0..BOXES {
-            let slot = self.heard[k];
-            if !slot.rules(setup, crnd, k) {
-                return false;
-            }
-        }
-        true
+        self.heard
+            .iter()
+            .enumerate()
+            .all(|(place, slot)| slot.rules(setup, self.crnd, place))
     }
 
+    #[tactic(auto, unfolding(crate::specs::Rules::coordinator_rules))]
     pub fn rules(self, setup: Setup, agent: u8) -> bool
         ensures { result ≡ coordinator_rules setup agent self }
     {
-        let crnd = self.crnd;
-        let cval = self.cval;
-        let own = either(crnd.same(Round::zero(setup)), crnd.c == agent);
-        let ok = both(crnd.in_range(setup), own);
-        let ok = both(ok, opened_rules(setup, cval));
-        both(ok, self.heard_rules(setup))
+        self.crnd.in_range(setup)
+            && (self.crnd == Round::zero(setup) || self.crnd.c == agent)
+            && opened_rules(setup, self.cval)
+            && self.heard_rules(setup)
     }
 }
 
 impl BoxRow {
+    #[tactic(auto, unfolding(crate::specs::Rules::box_rules))]
     pub fn rules(self, setup: Setup, agent: u8) -> bool
         ensures { result ≡ box_rules setup agent self }
     {
-        let rnd = self.rnd;
-        let vrnd = self.vrnd;
-        let vval = self.vval;
-        let ok = both(rnd.in_range(setup), last_rules(setup, vrnd, vval));
-        both(ok, !vrnd.compare(rnd).is_above())
+        self.rnd.in_range(setup)
+            && last_rules(setup, self.vrnd, self.vval)
+            && !self.vrnd.compare(self.rnd).is_above()
     }
 }
 
 impl RackRow {
+    #[tactic(auto, unfolding(crate::specs::Rules::rack_rules))]
     pub fn rules(self, setup: Setup, agent: u8) -> bool
         ensures { result ≡ rack_rules setup agent self }
     {
-        let prnd = self.prnd;
-        let pval = self.pval;
-        both(prnd.in_range(setup), pval.in_range())
+        self.prnd.in_range(setup) && self.pval.in_range()
     }
 }
 
@@ -111,33 +104,28 @@ impl ReaderRow {
     fn held_rules(self, setup: Setup) -> bool
         ensures { result ≡ all_held setup self }
     {
-        for k in 0..BOXES {
-            let slot = self.held[k];
-            if !slot.rules(setup, k) {
-                return false;
-            }
-        }
-        true
+        self.held
+            .iter()
+            .enumerate()
+            .all(|(place, slot)| slot.rules(setup, place))
     }
 
     fn blank_rules(self, setup: Setup) -> bool
         ensures { result ≡ all_blanks setup self }
     {
-        for k in 0..RACKS {
-            let slot = self.blanks[k];
-            if !slot.rules(setup, k) {
-                return false;
-            }
-        }
-        true
+        self.blanks
+            .iter()
+            .enumerate()
+            .all(|(rack, slot)| slot.rules(setup, rack))
     }
 
+    #[tactic(auto, unfolding(crate::specs::Rules::reader_rules))]
     pub fn rules(self, setup: Setup, agent: u8) -> bool
         ensures { result ≡ reader_rules setup agent self }
     {
-        let page = self.page;
-        let ok = both(page.within(setup.racks), !page.trivial(setup.racks));
-        let ok = both(ok, self.held_rules(setup));
-        both(ok, self.blank_rules(setup))
+        self.page.within(setup.racks)
+            && !self.page.trivial(setup.racks)
+            && self.held_rules(setup)
+            && self.blank_rules(setup)
     }
 }

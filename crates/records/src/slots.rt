@@ -3,28 +3,30 @@ ghost use Rattle.std.specs.Prelude.{◌≡◌};
 ghost use Rattle.records.specs.Rules.{nothing_heard, filled_heard, heard_rules, held_rules, blank_rules};
 
 use crate::votes::last_rules;
-use below::both;
 use pages::{Page, Vote};
 use rounds::{Number, Round, Setup};
 
 // What a coordinator heard of one box.
-#[derive(Clone, Copy)]
+//
+// `filled` stays a flag beside what it is about, here and below: writers answer 2 for content under
+// flag 0 (their contracts `Writes`), and an Option could not be handed such a record.
+#[derive(Clone, Copy, Debug, PartialEq, Eq)]
 pub struct Heard {
     pub filled: bool,
     pub vrnd: Round,
     pub vote: Vote,
 }
 
-// What a reader holds of one box.
-#[derive(Clone, Copy)]
+// What a reader holds of one box. The flag stays, as in `Heard`.
+#[derive(Clone, Copy, Debug, PartialEq, Eq)]
 pub struct Held {
     pub filled: bool,
     pub round: Round,
     pub page: Page,
 }
 
-// In which round a reader holds one rack blank.
-#[derive(Clone, Copy)]
+// In which round a reader holds one rack blank. The flag stays, as in `Heard`.
+#[derive(Clone, Copy, Debug, PartialEq, Eq)]
 pub struct Blank {
     pub filled: bool,
     pub round: Round,
@@ -44,26 +46,25 @@ impl Heard {
         vote: Vote::NONE,
     };
 
+    #[tactic(auto, unfolding(crate::specs::Rules::nothing_heard))]
     fn nothing(self) -> bool
         ensures { result ≡ nothing_heard self }
     {
-        let vote = self.vote;
-        let page = vote.page;
-        let ok = both(self.vrnd.same(NO_ROUND), !vote.some);
-        both(ok, page.is_empty())
+        self.vrnd == NO_ROUND && !self.vote.some && self.vote.page.is_empty()
     }
 
+    #[tactic(auto, unfolding(crate::specs::Rules::filled_heard))]
     fn heard_rules(self, setup: Setup, crnd: Round, place: usize) -> bool
         ensures { result ≡ filled_heard setup crnd place self }
     {
-        let vrnd = self.vrnd;
-        let vote = self.vote;
-        let ok = both(place < setup.boxes as usize, !crnd.same(Round::zero(setup)));
-        let ok = both(ok, last_rules(setup, vrnd, vote));
-        both(ok, vrnd.compare(crnd).is_below())
+        place < usize::from(setup.boxes)
+            && crnd != Round::zero(setup)
+            && last_rules(setup, self.vrnd, self.vote)
+            && self.vrnd.compare(crnd).is_below()
     }
 
     // A slot of a box: only of one that exists, only in a round that was started, and below it.
+    #[tactic(auto, unfolding(crate::specs::Rules::heard_rules))]
     pub fn rules(self, setup: Setup, crnd: Round, place: usize) -> bool
         ensures { result ≡ heard_rules setup crnd place self }
     {
@@ -83,17 +84,17 @@ impl Held {
     };
 
     // A held page is valued.
+    #[tactic(auto, unfolding(crate::specs::Rules::held_rules, crate::specs::Rules::nothing_held))]
     pub fn rules(self, setup: Setup, place: usize) -> bool
         ensures { result ≡ held_rules setup place self }
     {
-        let page = self.page;
-        let round = self.round;
         if self.filled {
-            let ok = both(place < setup.boxes as usize, round.in_range(setup));
-            let ok = both(ok, page.within(setup.racks));
-            both(ok, page.valued())
+            place < usize::from(setup.boxes)
+                && self.round.in_range(setup)
+                && self.page.within(setup.racks)
+                && self.page.valued()
         } else {
-            both(round.same(NO_ROUND), page.is_empty())
+            self.round == NO_ROUND && self.page.is_empty()
         }
     }
 }
@@ -104,14 +105,14 @@ impl Blank {
         round: NO_ROUND,
     };
 
+    #[tactic(auto, unfolding(crate::specs::Rules::blank_rules))]
     pub fn rules(self, setup: Setup, rack: usize) -> bool
         ensures { result ≡ blank_rules setup rack self }
     {
-        let round = self.round;
         if self.filled {
-            both(rack < setup.racks as usize, round.in_range(setup))
+            rack < usize::from(setup.racks) && self.round.in_range(setup)
         } else {
-            round.same(NO_ROUND)
+            self.round == NO_ROUND
         }
     }
 }

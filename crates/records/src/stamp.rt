@@ -2,10 +2,9 @@
 ghost use Rattle.std.specs.Prelude.{◌≡◌};
 ghost use Rattle.records.specs.Rules.{stamp_rules};
 
-use below::both;
 use rounds::{Instance, Setup};
 
-#[derive(Clone, Copy)]
+#[derive(Clone, Copy, Debug, PartialEq, Eq)]
 pub struct Stamp {
     pub instance: Instance,
     pub setup: Setup,
@@ -15,10 +14,10 @@ pub struct Stamp {
 
 impl Stamp {
     // Setup and instance are in range, and the agent is one of as many as there are of its sort.
+    #[tactic(auto, unfolding(crate::specs::Rules::stamp_rules))]
     pub fn rules(self, agents: u8) -> bool
         ensures { result ≡ stamp_rules self agents }
     {
-        let ok = both(self.setup.in_range(), self.instance.0 <= Instance::LARGEST);
-        both(ok, self.agent < agents)
+        self.setup.in_range() && self.instance.0 <= Instance::LARGEST && self.agent < agents
     }
 }

@@ -17,12 +17,6 @@ const PIECE: usize = 32768;
 
 const ROOM: usize = 720896;
 
-#[derive(Clone, Copy)]
-struct Taken {
-    rehearsal: Rehearsal,
-    more: bool,
-}
-
 fn hall_bytes() -> [u8; HALL]
     ensures { 60416 ≡ length result }
 {
@@ -41,35 +35,27 @@ fn room_bytes() -> [u8; ROOM]
     [0; ROOM]
 }
 
-// Takes one piece and prints what it gives. No more are wanted at the end of the input, or when the
-// rehearsal is over.
+// Takes one piece and prints what it gives; whether more are wanted: none at the end of the input, nor
+// when the rehearsal is over.
 fn take<R: Read>(
     rt: &impl Print,
     from: &mut R,
     hall: &mut [u8],
-    rehearsal: Rehearsal,
+    rehearsal: &mut Rehearsal,
     input: &mut [u8],
     out: &mut [u8],
-) -> io::Result<Taken> {
+) -> io::Result<bool> {
     let n = from.read(input)?;
     if n == 0 {
-        return Ok(Taken {
-            rehearsal,
-            more: false,
-        });
+        return Ok(false);
     }
-    let played = play(hall, rehearsal, &input[..n], out);
-    let to = played.to;
-    io::writer(rt).write_all(&out[..to])?;
-    let state = played.rehearsal;
-    let over = state.over();
-    Ok(Taken {
-        rehearsal: state,
-        more: !over,
-    })
+    let played = play(hall, *rehearsal, &input[..n], out);
+    io::writer(rt).write_all(&out[..played.to])?;
+    *rehearsal = played.rehearsal;
+    Ok(!rehearsal.over())
 }
 
-// Nothing says that an input ends, so the pieces are counted down, from a number that none uses up.
+// Nothing says that an input ends, so the pieces are counted, up to a number that none uses up.
 fn take_all<R: Read>(
     rt: &impl Print,
     from: &mut R,
@@ -77,17 +63,13 @@ fn take_all<R: Read>(
     input: &mut [u8],
     out: &mut [u8],
 ) -> io::Result<Rehearsal> {
-    let mut taken = Taken {
-        rehearsal: Rehearsal::START,
-        more: true,
-    };
-    let mut pieces = u64::MAX;
-    while pieces > 0 && taken.more {
-        let rehearsal = taken.rehearsal;
-        taken = take(rt, from, hall, rehearsal, input, out)?;
-        pieces -= 1;
+    let mut rehearsal = Rehearsal::START;
+    for _ in 0..u64::MAX {
+        if !take(rt, from, hall, &mut rehearsal, input, out)? {
+            break;
+        }
     }
-    Ok(taken.rehearsal)
+    Ok(rehearsal)
 }
 
 fn finish(
@@ -97,8 +79,7 @@ fn finish(
     out: &mut [u8],
 ) -> io::Result<()> {
     let ended = end(hall, rehearsal, out);
-    let to = ended.to;
-    io::writer(rt).write_all(&out[..to])
+    io::writer(rt).write_all(&out[..ended.to])
 }
 
 fn rehearse<R: Read>(

@@ -1,9 +1,8 @@
 -- A run of turns: two in a row are one, a piece of input in two parts is two pieces, and no turn prints more than its room.
-use Rattle.std.proofs.Common.{ℕ, ◌+◌, ◌*◌, ◌-◌, ◌≤◌, ◌<◌, arith, eqb, length, take, drop, length-append, length-drop, length-take-le, take_all, take-add, ◌≡◌, refl, sym, ap, subst, ◌∙◌, Bool, true, false, cond, List, [], ◌∷◌, ◌++◌, append_assoc, append-nil}
+use Rattle.std.proofs.Common.{ℕ, ◌+◌, ◌*◌, ◌-◌, ◌≤◌, ◌<◌, arith, eqb, length, take, drop, length-append, length-drop, length-take-le, take_all, take-add, ◌≡◌, refl, sym, ap, subst, ◌∙◌, Bool, true, false, cond, Option, Some, None, List, [], ◌∷◌, ◌++◌, append_assoc, append-nil}
 use Rattle.below.specs.Refusals.{granted}
 use Rattle.words.specs.Bytes.{splice}
 use Rattle.hall.specs.Halls.{setup_refusal}
-use Rattle.lines.specs.declared.scan.NumbersRead.{NumbersRead}
 use Rattle.lines.specs.Scans.{finish_of}
 use Rattle.lines.specs.Fields.{line_feed}
 use Rattle.lines.specs.Texts.{answer_room, Put}
@@ -46,10 +45,12 @@ either_short : {n : ℕ} (b : Bool) (x y : Turn) → length x.text ≤ n → len
 either_short true x y l m = l
 either_short false x y l m = m
 
-pub line_short : (stage : Stage) (hall : List ℕ) (read : NumbersRead) → length (line_turn stage hall read).text ≤ answer_room
+pub line_short : (stage : Stage) (hall : List ℕ) (read : Option (List ℕ)) → length (line_turn stage hall read).text ≤ answer_room
 unfolding setup_turn step_turn
-line_short Setup hall read = either_short read.readable _ _ (either_short (eqb (setup_refusal hall (instance_in read.numbers) (setup_in read.numbers)) granted) _ _ (answer_short _ _) (answer_short _ _)) (omega arith)
-line_short (Steps readers racks) hall read = either_short read.readable _ _ (answer_short _ _) (omega arith)
+line_short Setup hall (Some n) = either_short (eqb (setup_refusal hall (instance_in n) (setup_in n)) granted) _ _ (answer_short _ _) (answer_short _ _)
+line_short Setup hall None = omega arith
+line_short (Steps readers racks) hall (Some n) = answer_short _ _
+line_short (Steps readers racks) hall None = omega arith
 line_short Over hall read = omega arith
 
 byte_short : (r : Rehearsal) (hall : List ℕ) (b : ℕ) → length (byte_turn r hall b).text ≤ answer_room
@@ -130,9 +131,9 @@ turned_none s before old t e = rw e (record { played = refl; left = refl; printe
 
 -- the end of the input: a last line, or none
 module _ (s : Rehearsal) (before : List ℕ) where
-  pub last_line : {at next : ℕ} {hall old after : List ℕ} {r : Rehearsal} {read : NumbersRead} → s.begun ≡ true → read ≡ finish_of s.scan →
+  pub last_line : {at next : ℕ} {hall old after : List ℕ} {r : Rehearsal} {read : Option (List ℕ)} → s.begun ≡ true → read ≡ finish_of s.scan →
       Turned (line_turn s.stage before read) at hall old after r next → Turned (last_turn s before) at hall old after r next
-  last_line {at} {next} {hall} {old} {after} {r} e f t = rw e (subst (λ (x : NumbersRead). Turned (line_turn s.stage before x) at hall old after r next) f t)
+  last_line {at} {next} {hall} {old} {after} {r} e f t = rw e (subst (λ (x : Option (List ℕ)). Turned (line_turn s.stage before x) at hall old after r next) f t)
 
   pub no_last_line : (old : List ℕ) → s.begun ≡ false → Turned (last_turn s before) 0 before old old s 0
   no_last_line old e = rw e (record { played = refl; left = refl; printed = put_nothing 0 old })

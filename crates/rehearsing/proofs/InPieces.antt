@@ -1,5 +1,5 @@
 -- A rehearsal prints what its input says, in whatever pieces the input comes: `rehearsal_in_pieces`.
-use Rattle.std.proofs.Common.{ℕ, ◌≤◌, min, arith, leb, ltb, eqb, length, leb-true, eqb-true, ◌≡◌, refl, sym, ap, ◌∙◌, Bool, true, false, cond, ◌&&◌, List, [], ◌∷◌, ◌++◌, append_assoc, append-nil}
+use Rattle.std.proofs.Common.{ℕ, ◌≤◌, min, arith, leb, ltb, eqb, length, leb-true, eqb-true, ◌≡◌, refl, sym, ap, ◌∙◌, Bool, true, false, cond, ◌&&◌, Option, Some, None, List, [], ◌∷◌, ◌++◌, append_assoc, append-nil}
 use Rattle.std.proofs.Math.Nat.{min-eq_left}
 use Rattle.below.specs.Refusals.{granted}
 use Rattle.below.proofs.Tests.{and_left, and_right}
@@ -8,7 +8,6 @@ use Rattle.rounds.specs.declared.setup.Setup as Setup
 use Rattle.rounds.specs.Setups.{one_to, setup_in_range, most_racks, most_boxes, most_coordinators, most_readers}
 use Rattle.hall.specs.Halls.{hall_size, setup_refusal, setup_after}
 use Rattle.hall.specs.Steps.{hall_refusal, hall_after}
-use Rattle.lines.specs.declared.scan.NumbersRead.{NumbersRead}
 use Rattle.lines.specs.Fields.{line_feed, in_front, numbers_of}
 use Rattle.lines.specs.Scans.{start, feed_of, finish_of, feed_all}
 use Rattle.lines.specs.Texts.{answer_text, unreadable_text}
@@ -16,7 +15,7 @@ use Rattle.lines.proofs.ScanIsLine.{feed_parts, scan_is_line}
 use Rattle.rehearsing.specs.declared.rehearsal.Stage.{Stage}
 use Rattle.rehearsing.specs.declared.rehearsal.Stage.TheVariants.{Setup as setup_stage, Steps, Over}
 use Rattle.rehearsing.specs.declared.rehearsal.Rehearsal.{Rehearsal}
-use Rattle.rehearsing.specs.Rehearsals.{lines_of, instance_in, setup_in, step_in, messages_in, steps_text, lines_text, rehearsal_text}
+use Rattle.rehearsing.specs.Rehearsals.{lines_of, instance_in, setup_in, step_in, messages_in, by_numbers, steps_text, lines_text, rehearsal_text}
 use Rattle.rehearsing.specs.Turns.{Turn, turn, beginning, setup_turn, step_turn, line_turn, byte_turn, play_of, last_turn, stage_pages, end_of}
 use Rattle.rehearsing.proofs.InParts.{play_parts}
 
@@ -103,10 +102,12 @@ either_begins : (b : Bool) (x y : Turn) → x.rehearsal.begun ≡ false → y.re
 either_begins true x y p q = p
 either_begins false x y p q = q
 
-line_begins : (stage : Stage) (hall : List ℕ) (read : NumbersRead) → (line_turn stage hall read).rehearsal.begun ≡ false
+line_begins : (stage : Stage) (hall : List ℕ) (read : Option (List ℕ)) → (line_turn stage hall read).rehearsal.begun ≡ false
 unfolding setup_turn step_turn
-line_begins setup_stage hall read = either_begins read.readable _ _ (either_begins (eqb (setup_refusal hall (instance_in read.numbers) (setup_in read.numbers)) granted) _ _ refl refl) refl
-line_begins (Steps readers racks) hall read = either_begins read.readable _ _ refl refl
+line_begins setup_stage hall (Some n) = either_begins (eqb (setup_refusal hall (instance_in n) (setup_in n)) granted) _ _ refl refl
+line_begins setup_stage hall None = refl
+line_begins (Steps readers racks) hall (Some n) = refl
+line_begins (Steps readers racks) hall None = refl
 line_begins Over hall read = refl
 
 -- a last line that lacks its LF is a line all the same
@@ -115,7 +116,7 @@ printed_last : (stage : Stage) (hall : List ℕ) (x : ℕ) (line : List ℕ) →
 unfolding begun_by
 printed_last stage hall x line =
     printed_end (reading stage (x ∷ line)) hall ∙
-    ap (λ (read : NumbersRead). (line_turn stage hall read).text ++ stage_pages (line_turn stage hall read).rehearsal.stage (line_turn stage hall read).hall) (scan_is_line (x ∷ line)) ∙
+    ap (λ (read : Option (List ℕ)). (line_turn stage hall read).text ++ stage_pages (line_turn stage hall read).rehearsal.stage (line_turn stage hall read).hall) (scan_is_line (x ∷ line)) ∙
     ap (λ (text : List ℕ). (line_turn stage hall (numbers_of (x ∷ line))).text ++ text)
     (sym (printed_pages (line_turn stage hall (numbers_of (x ∷ line))).rehearsal (line_turn stage hall (numbers_of (x ∷ line))).hall (line_begins stage hall (numbers_of (x ∷ line)))))
 
@@ -147,17 +148,16 @@ module _ (readers racks : ℕ) where
       ((h : List ℕ) → printed (beginning (Steps readers racks)) h input ≡ steps_text (min readers most_readers) (min racks most_racks) h later) →
       after_turn (line_turn (Steps readers racks) hall (numbers_of line)) input ≡ steps_text (min readers most_readers) (min racks most_racks) hall (line ∷ later)
   unfolding steps_text step_turn
-  line_of_step hall line input later rest = go (numbers_of line).readable
+  line_of_step hall line input later rest = go (numbers_of line)
     where
-      go : (b : Bool) →
-          after_turn
-          (cond b (step_turn (Steps readers racks) hall (numbers_of line).numbers) (turn (beginning (Steps readers racks)) hall unreadable_text)) input ≡
-          cond b
-          (answer_text (hall_refusal hall (step_in (numbers_of line).numbers)) (messages_in (hall_after hall (step_in (numbers_of line).numbers))) ++
-          steps_text (min readers most_readers) (min racks most_racks) (hall_after hall (step_in (numbers_of line).numbers)) later)
+      go : (read : Option (List ℕ)) →
+          after_turn (line_turn (Steps readers racks) hall read) input ≡
+          by_numbers read
+          (λ n. answer_text (hall_refusal hall (step_in n)) (messages_in (hall_after hall (step_in n))) ++
+          steps_text (min readers most_readers) (min racks most_racks) (hall_after hall (step_in n)) later)
           (unreadable_text ++ steps_text (min readers most_readers) (min racks most_racks) hall later)
-      go true = ap (λ (text : List ℕ). answer_text (hall_refusal hall (step_in (numbers_of line).numbers)) (messages_in (hall_after hall (step_in (numbers_of line).numbers))) ++ text) (rest (hall_after hall (step_in (numbers_of line).numbers)))
-      go false = ap (λ (text : List ℕ). unreadable_text ++ text) (rest hall)
+      go (Some n) = ap (λ (text : List ℕ). answer_text (hall_refusal hall (step_in n)) (messages_in (hall_after hall (step_in n))) ++ text) (rest (hall_after hall (step_in n)))
+      go None = ap (λ (text : List ℕ). unreadable_text ++ text) (rest hall)
 
   steps_end : (h : List ℕ) → printed (beginning (Steps readers racks)) h [] ≡ steps_text (min readers most_readers) (min racks most_racks) h []
   unfolding steps_text
@@ -199,37 +199,41 @@ line_of_setup : (hall line input : List ℕ) (later : List (List ℕ)) →
     ((l p : ℕ) (h : List ℕ) → printed (beginning (Steps l p)) h input ≡ steps_text (min l most_readers) (min p most_racks) h later) →
     ((h : List ℕ) → printed (beginning Over) h input ≡ []) → after_turn (line_turn setup_stage hall (numbers_of line)) input ≡ lines_text hall (line ∷ later)
 unfolding lines_text setup_turn
-line_of_setup hall line input later steps over =
-    go (numbers_of line).readable (eqb (setup_refusal hall (instance_in numbers) (setup_in numbers)) granted) refl
+line_of_setup hall line input later steps over = by (numbers_of line)
   where
-    numbers : List ℕ
-    numbers = (numbers_of line).numbers
+    all : (n : List ℕ) → eqb (setup_refusal hall (instance_in n) (setup_in n)) granted ≡ true →
+        printed (beginning (Steps (setup_in n).readers (setup_in n).racks)) (setup_after hall (instance_in n) (setup_in n)) input ≡
+        steps_text (setup_in n).readers (setup_in n).racks (setup_after hall (instance_in n) (setup_in n)) later
+    all n e =
+        let after = setup_after hall (instance_in n) (setup_in n) in
+        let f = few hall (instance_in n) (setup_in n) (eqb-true _ _ e) in
+        steps (setup_in n).readers (setup_in n).racks after ∙ ap (λ (k : ℕ). steps_text k (min (setup_in n).racks most_racks) after later) (min-eq_left f.0) ∙
+        ap (λ (k : ℕ). steps_text (setup_in n).readers k after later) (min-eq_left f.1)
 
-    after : List ℕ
-    after = setup_after hall (instance_in numbers) (setup_in numbers)
-
-    all : eqb (setup_refusal hall (instance_in numbers) (setup_in numbers)) granted ≡ true →
-        printed (beginning (Steps (setup_in numbers).readers (setup_in numbers).racks)) after input ≡ steps_text (setup_in numbers).readers (setup_in numbers).racks after later
-    all e =
-        let f = few hall (instance_in numbers) (setup_in numbers) (eqb-true _ _ e) in
-        steps (setup_in numbers).readers (setup_in numbers).racks after ∙ ap (λ (n : ℕ). steps_text n (min (setup_in numbers).racks most_racks) after later) (min-eq_left f.0) ∙
-        ap (λ (n : ℕ). steps_text (setup_in numbers).readers n after later) (min-eq_left f.1)
-
-    go : (b g : Bool) → eqb (setup_refusal hall (instance_in numbers) (setup_in numbers)) granted ≡ g →
+    go : (n : List ℕ) (g : Bool) → eqb (setup_refusal hall (instance_in n) (setup_in n)) granted ≡ g →
         after_turn
-        (cond b
-        (cond g (turn (beginning (Steps (setup_in numbers).readers (setup_in numbers).racks)) after (answer_text granted (messages_in after)))
-        (turn (beginning Over) after (answer_text (setup_refusal hall (instance_in numbers) (setup_in numbers)) 0)))
-        (turn (beginning Over) hall unreadable_text)) input ≡
-        cond b
-        (cond g (answer_text granted (messages_in after) ++ steps_text (setup_in numbers).readers (setup_in numbers).racks after later)
-        (answer_text (setup_refusal hall (instance_in numbers) (setup_in numbers)) 0))
+        (cond g
+        (turn (beginning (Steps (setup_in n).readers (setup_in n).racks)) (setup_after hall (instance_in n) (setup_in n))
+        (answer_text granted (messages_in (setup_after hall (instance_in n) (setup_in n)))))
+        (turn (beginning Over) (setup_after hall (instance_in n) (setup_in n)) (answer_text (setup_refusal hall (instance_in n) (setup_in n)) 0))) input ≡
+        cond g
+        (answer_text granted (messages_in (setup_after hall (instance_in n) (setup_in n))) ++
+        steps_text (setup_in n).readers (setup_in n).racks (setup_after hall (instance_in n) (setup_in n)) later)
+        (answer_text (setup_refusal hall (instance_in n) (setup_in n)) 0)
+    go n true e = ap (λ (text : List ℕ). answer_text granted (messages_in (setup_after hall (instance_in n) (setup_in n))) ++ text) (all n e)
+    go n false e =
+        ap (λ (text : List ℕ). answer_text (setup_refusal hall (instance_in n) (setup_in n)) 0 ++ text) (over (setup_after hall (instance_in n) (setup_in n))) ∙
+        append-nil (answer_text (setup_refusal hall (instance_in n) (setup_in n)) 0)
+
+    by : (read : Option (List ℕ)) → after_turn (line_turn setup_stage hall read) input ≡
+        by_numbers read
+        (λ n. cond (eqb (setup_refusal hall (instance_in n) (setup_in n)) granted)
+        (answer_text granted (messages_in (setup_after hall (instance_in n) (setup_in n))) ++
+        steps_text (setup_in n).readers (setup_in n).racks (setup_after hall (instance_in n) (setup_in n)) later)
+        (answer_text (setup_refusal hall (instance_in n) (setup_in n)) 0))
         unreadable_text
-    go true true e = ap (λ (text : List ℕ). answer_text granted (messages_in after) ++ text) (all e)
-    go true false e =
-        ap (λ (text : List ℕ). answer_text (setup_refusal hall (instance_in numbers) (setup_in numbers)) 0 ++ text) (over after) ∙
-        append-nil (answer_text (setup_refusal hall (instance_in numbers) (setup_in numbers)) 0)
-    go false g e = ap (λ (text : List ℕ). unreadable_text ++ text) (over hall) ∙ append-nil unreadable_text
+    by (Some n) = go n (eqb (setup_refusal hall (instance_in n) (setup_in n)) granted) refl
+    by None = ap (λ (text : List ℕ). unreadable_text ++ text) (over hall) ∙ append-nil unreadable_text
 
 setup_printed : (input hall line : List ℕ) → printed (reading setup_stage line) hall input ≡ lines_text hall (opened line (lines_of input))
 unfolding lines_of opened lines_text

@@ -1,7 +1,6 @@
 -- A part of a line: bytes before the LF print nothing, and the LF is the line's turn.
-use Rattle.std.proofs.Common.{ℕ, suc, ◌+◌, ◌-◌, ◌≤◌, ◌<◌, arith, eqb, length, take, drop, length-drop, take_all, eqb-true, ◌≡◌, refl, sym, ap, subst, ◌∙◌, Bool, true, false, cond, List, [], ◌∷◌, ◌++◌}
+use Rattle.std.proofs.Common.{ℕ, suc, ◌+◌, ◌-◌, ◌≤◌, ◌<◌, arith, eqb, length, take, drop, length-drop, take_all, eqb-true, ◌≡◌, refl, sym, ap, subst, ◌∙◌, Bool, true, false, cond, Option, List, [], ◌∷◌, ◌++◌}
 use Rattle.lines.specs.declared.scan.Scan.{Scan}
-use Rattle.lines.specs.declared.scan.NumbersRead.{NumbersRead}
 use Rattle.lines.specs.Fields.{line_feed, before_lf}
 use Rattle.lines.specs.Scans.{feed_of, feed_all, finish_of, FedOn}
 use Rattle.rehearsing.specs.declared.rehearsal.Rehearsal.{Rehearsal}
@@ -96,7 +95,7 @@ module _ (r : Rehearsal) (hall input : List ℕ) (from : ℕ) {scan : Scan} {end
   unfolding rest
   ends_inside = omega (arith, fed.stopped, before_short (drop from input), length-drop from input)
 
-  pub parted_line : {at next : ℕ} {hall' old after : List ℕ} {r' : Rehearsal} {read : NumbersRead} → end < length input → read ≡ finish_of scan →
+  pub parted_line : {at next : ℕ} {hall' old after : List ℕ} {r' : Rehearsal} {read : Option (List ℕ)} → end < length input → read ≡ finish_of scan →
       Turned (line_turn r.stage hall read) at hall' old after r' next → Parted r hall input from at hall' old after r' next (end + 1)
   unfolding rest
   parted_line {at} {next} {hall'} {old} {after} {r'} {read} h f t =
@@ -112,7 +111,7 @@ module _ (r : Rehearsal) (hall input : List ℕ) (from : ℕ) {scan : Scan} {end
       is : play_of r hall (take (end + 1 - from) rest) ≡ line_turn r.stage hall read
       is =
           ap (λ (n : ℕ). play_of r hall (take n rest)) length_is ∙ part_line hall rest r (omega (arith, fed.stopped, length-drop from input)) ∙
-          ap (λ (x : NumbersRead). line_turn r.stage hall x) (sym (f ∙ ap finish_of fed.scanned))
+          ap (λ (x : Option (List ℕ)). line_turn r.stage hall x) (sym (f ∙ ap finish_of fed.scanned))
 
   pub parted_open : (at : ℕ) (old : List ℕ) → length input ≤ end →
       Parted r hall input from at hall old old (record { stage = r.stage; scan = scan; begun = true }) at end

@@ -1,17 +1,15 @@
 -- The pages at the end: the loops over racks and readers, and their room.
-use Rattle.std.proofs.Common.{ℕ, zero, suc, ◌+◌, ◌*◌, ◌-◌, ◌≤◌, ◌<◌, min, le_antisymm, mul-suc, add-one, arith, length, take, drop, length-append, eq-eqb, ne_eqb, ◌≡◌, sym, ap, subst, ◌∙◌, List}
+use Rattle.std.proofs.Common.{ℕ, zero, suc, ◌+◌, ◌*◌, ◌-◌, ◌≤◌, ◌<◌, le_antisymm, mul-suc, add-one, arith, length, take, drop, length-append, ◌≡◌, sym, ap, subst, ◌∙◌, List}
 use Rattle.pages.specs.declared.line.Mark.{Mark}
 use Rattle.pages.specs.declared.page.Page.{Page}
 use Rattle.pages.specs.Pages.{at as mark_at}
 use Rattle.fields.specs.Codecs.{run}
 use Rattle.fields.specs.Layout.{page}
-use Rattle.hall.specs.Halls.{hall_size, block_at}
+use Rattle.hall.specs.Halls.{block_at}
 use Rattle.lines.specs.Texts.{page_line_text, page_line_room, Put, PutIn}
 use Rattle.lines.proofs.Writing.{put_next, put_with_room, page_line_short}
-use Rattle.rehearsing.specs.declared.rehearsal.Stage.{Stage}
-use Rattle.rehearsing.specs.declared.rehearsal.Stage.TheVariants.{Setup, Steps, Over}
-use Rattle.rehearsing.specs.Rehearsals.{page_of, pages_text}
-use Rattle.rehearsing.specs.Turns.{stage_pages, pages_room}
+use Rattle.rehearsing.specs.Rehearsals.{page_of}
+use Rattle.rehearsing.specs.Turns.{pages_room}
 use Rattle.rehearsing.proofs.Turning.{put_nothing}
 
 -- a reader's page is read from its block
@@ -81,25 +79,3 @@ module _ (hall : List ℕ) (racks : ℕ) {at to i : ℕ} {old mid : List ℕ} (f
 pub reader_page : (hall : List ℕ) (racks i : ℕ) {to next : ℕ} {p : Page} {mid after : List ℕ} → p ≡ page_of hall i → Put to (run racks (page_lines p i)) mid after next →
     Put to (reader_lines hall racks i) mid after next
 reader_page hall racks i {to} {next} {p} {mid} {after} e q = subst (λ (x : Page). Put to (run racks (page_lines x i)) mid after next) e q
-
--- by the hall's length, and by the stage
-module _ (hall : List ℕ) (readers racks : ℕ) {at to : ℕ} {old after : List ℕ} where
-  pub hall_has_pages : length hall ≡ hall_size → Put at (run readers (reader_lines hall racks)) old after to → Put at (pages_text readers racks hall) old after to
-  unfolding pages_text
-  hall_has_pages l p = rw (eq-eqb (length hall) hall_size l) p
-
-pub no_hall_no_pages : (hall : List ℕ) (readers racks at : ℕ) (old : List ℕ) → (length hall ≡ hall_size → ⊥) → Put at (pages_text readers racks hall) old old at
-unfolding pages_text
-no_hall_no_pages hall readers racks at old n = rw (ne_eqb (length hall) hall_size n) (put_nothing at old)
-
-module _ (hall : List ℕ) {stage : Stage} where
-  pub none_at_setup : (at : ℕ) (old : List ℕ) → stage ≡ Setup → Put at (stage_pages stage hall) old old at
-  none_at_setup at old e = rw e (put_nothing at old)
-
-  pub none_when_over : (at : ℕ) (old : List ℕ) → stage ≡ Over → Put at (stage_pages stage hall) old old at
-  none_when_over at old e = rw e (put_nothing at old)
-
-  pub pages_after_steps : {readers racks l p at to : ℕ} {old after : List ℕ} → stage ≡ Steps readers racks → l ≡ min readers 4 → p ≡ min racks 8 →
-      Put at (pages_text l p hall) old after to → Put at (stage_pages stage hall) old after to
-  pages_after_steps {readers} {racks} {l} {p} {at} {to} {old} {after} e f g put =
-      rw e (subst (λ (n : ℕ). Put at (pages_text (min readers 4) n hall) old after to) g (subst (λ (n : ℕ). Put at (pages_text n p hall) old after to) f put))

@@ -1,12 +1,12 @@
 -- What a rehearsal prints (document 01, 'Rehearsal'): of the whole input, line by line. How the input comes in is said nowhere here.
-use Rattle.std.specs.Prelude.{ℕ, ◌+◌, eqb, length, get_or, cond, List, [], ◌∷◌, ◌++◌}
+use Rattle.std.specs.Prelude.{ℕ, ◌+◌, eqb, length, get_or, cond, Option, Some, None, List, [], ◌∷◌, ◌++◌}
 use Rattle.below.specs.Refusals.{granted}
 use Rattle.pages.specs.declared.page.Page.{Page}
 use Rattle.pages.specs.Pages.{at}
 use Rattle.rounds.specs.declared.setup.Setup.{Setup}
 use Rattle.rounds.specs.Setups.{setup_of}
 use Rattle.fields.specs.Codecs.{run}
-use Rattle.row_blocks.specs.Rows.{reader}
+use Rattle.blocks.specs.Rows.{reader}
 use Rattle.acts.specs.declared.step.Step.{Step}
 use Rattle.acts.specs.Acts.{body_of}
 use Rattle.hall.specs.Halls.{hall_size, readers_at, block_at, setup_refusal, setup_after}
@@ -51,25 +51,29 @@ unfoldable pub pages_text : ℕ → ℕ → List ℕ → List ℕ
 pages_text readers racks hall =
     cond (eqb (length hall) hall_size) (run readers (λ i. run racks (λ rack. page_line_text i rack (at (page_of hall i) rack)))) []
 
+-- what a line gives: by its seven numbers, or where it is not seven decimals
+abbrev pub by_numbers : Option (List ℕ) → (List ℕ → List ℕ) → List ℕ → List ℕ
+by_numbers (Some numbers) read unreadable = read numbers
+by_numbers None read unreadable = unreadable
+
 -- one step a line, at the end the pages
 unfoldable pub steps_text : ℕ → ℕ → List ℕ → List (List ℕ) → List ℕ
 steps_text readers racks hall [] = pages_text readers racks hall
 steps_text readers racks hall (line ∷ later) =
-    cond (numbers_of line).readable
-    (answer_text (hall_refusal hall (step_in (numbers_of line).numbers)) (messages_in (hall_after hall (step_in (numbers_of line).numbers))) ++
-    steps_text readers racks (hall_after hall (step_in (numbers_of line).numbers)) later)
+    by_numbers (numbers_of line)
+    (λ numbers. answer_text (hall_refusal hall (step_in numbers)) (messages_in (hall_after hall (step_in numbers))) ++
+    steps_text readers racks (hall_after hall (step_in numbers)) later)
     (unreadable_text ++ steps_text readers racks hall later)
 
 -- A setup line, then the steps. A refused setup prints its number and 0, an unreadable one "?"; either ends the run
 unfoldable pub lines_text : List ℕ → List (List ℕ) → List ℕ
 lines_text hall [] = []
 lines_text hall (line ∷ later) =
-    cond (numbers_of line).readable
-    (cond (eqb (setup_refusal hall (instance_in (numbers_of line).numbers) (setup_in (numbers_of line).numbers)) granted)
-    (answer_text granted (messages_in (setup_after hall (instance_in (numbers_of line).numbers) (setup_in (numbers_of line).numbers))) ++
-    steps_text (setup_in (numbers_of line).numbers).readers (setup_in (numbers_of line).numbers).racks
-    (setup_after hall (instance_in (numbers_of line).numbers) (setup_in (numbers_of line).numbers)) later)
-    (answer_text (setup_refusal hall (instance_in (numbers_of line).numbers) (setup_in (numbers_of line).numbers)) 0))
+    by_numbers (numbers_of line)
+    (λ numbers. cond (eqb (setup_refusal hall (instance_in numbers) (setup_in numbers)) granted)
+    (answer_text granted (messages_in (setup_after hall (instance_in numbers) (setup_in numbers))) ++
+    steps_text (setup_in numbers).readers (setup_in numbers).racks (setup_after hall (instance_in numbers) (setup_in numbers)) later)
+    (answer_text (setup_refusal hall (instance_in numbers) (setup_in numbers)) 0))
     unreadable_text
 
 -- `hall` is the bytes that the hall is kept in

@@ -1,12 +1,11 @@
 -- The rehearsal byte by byte: what is kept between bytes, and what each adds to the output. That over the whole input, in whatever
 -- pieces it comes, this is the rehearsal's text is `rehearsal_in_pieces` (proofs/InPieces.antt).
-use Rattle.std.specs.Prelude.{ℕ, ◌+◌, ◌*◌, ◌-◌, ◌≤◌, ◌<◌, min, eqb, length, take, drop, ◌≡◌, Bool, true, false, cond, List, [], ◌∷◌, ◌++◌}
+use Rattle.std.specs.Prelude.{ℕ, ◌+◌, ◌*◌, ◌-◌, ◌≤◌, ◌<◌, min, eqb, length, take, drop, ◌≡◌, Bool, true, false, cond, Option, Some, None, List, [], ◌∷◌, ◌++◌}
 use Rattle.below.specs.Refusals.{granted}
 use Rattle.rounds.specs.Setups.{most_racks, most_readers}
 use Rattle.words.specs.Bytes.{splice}
 use Rattle.hall.specs.Halls.{setup_refusal, setup_after}
 use Rattle.hall.specs.Steps.{hall_refusal, hall_after}
-use Rattle.lines.specs.declared.scan.NumbersRead.{NumbersRead}
 use Rattle.lines.specs.Scans.{start, feed_of, finish_of}
 use Rattle.lines.specs.Fields.{line_feed}
 use Rattle.lines.specs.Texts.{answer_text, unreadable_text, answer_room, page_line_room, Put}
@@ -43,10 +42,11 @@ step_turn stage hall numbers =
     (answer_text (hall_refusal hall (step_in numbers)) (messages_in (hall_after hall (step_in numbers))))
 
 -- a whole line; after a setup that is refused or unreadable nothing is read
-abbrev pub line_turn : Stage → List ℕ → NumbersRead → Turn
-line_turn Setup hall read = cond read.readable (setup_turn hall read.numbers) (turn (beginning Over) hall unreadable_text)
-line_turn (Steps readers racks) hall read =
-    cond read.readable (step_turn (Steps readers racks) hall read.numbers) (turn (beginning (Steps readers racks)) hall unreadable_text)
+abbrev pub line_turn : Stage → List ℕ → Option (List ℕ) → Turn
+line_turn Setup hall (Some numbers) = setup_turn hall numbers
+line_turn Setup hall None = turn (beginning Over) hall unreadable_text
+line_turn (Steps readers racks) hall (Some numbers) = step_turn (Steps readers racks) hall numbers
+line_turn (Steps readers racks) hall None = turn (beginning (Steps readers racks)) hall unreadable_text
 line_turn Over hall read = turn (beginning Over) hall []
 
 -- one byte

@@ -1,5 +1,5 @@
 // The pages at the end of a rehearsal: a line for each reader and rack.
-ghost use Rattle.std.specs.Prelude.{◌+◌, ◌*◌, ◌≤◌, ◌<◌, min, length, ◌≡◌};
+ghost use Rattle.std.specs.Prelude.{◌+◌, ◌*◌, ◌≤◌, ◌<◌, length, ◌≡◌};
 ghost use Rattle.pages.specs.Pages.{at as mark_at};
 ghost use Rattle.fields.specs.Codecs.{run};
 ghost use Rattle.hall.specs.Halls.{hall_size};
@@ -9,42 +9,33 @@ ghost use Rattle.rehearsing.specs.Turns.{stage_pages, pages_room};
 
 use crate::rehearsal::Stage;
 use blocks::BLOCK;
+use fields::Field;
 use hall::{HALL, READERS_AT};
 use lines::put_page_line;
 use pages::Page;
-
-const MOST_READERS: u32 = 4;
-
-const MOST_RACKS: u32 = 8;
+use rounds::Setup;
 
 // Where the page stands in a reader's row.
 const PAGE: usize = 10;
 
-fn least(a: u32, b: u32) -> u32
-    ensures value { result ≡ min a b }
-    ensures upper_bound { result ≤ b }
-{
-    if a < b { a } else { b }
-}
-
+#[tactic(auto, using(crate::proofs::PageLines::page_read))]
 fn page_of(hall: &[u8], reader: u32) -> Page
     requires { (length hall.now ≡ hall_size) × (reader < 4) }
     ensures { result ≡ page_of hall.now reader }
 {
     let from = (READERS_AT + reader as usize) * BLOCK;
     let to = from + BLOCK;
-    let read = fields::read_page(&hall[from..to], PAGE);
-    read.value
+    Page::read(&hall[from..to], PAGE).value
 }
 
+// Readers and racks are counted, here and below, since their numbers are printed.
 fn put_page(page: Page, reader: u32, racks: u32, out: &mut [u8], at: usize) -> usize
     requires { at + page_line_room * racks ≤ length out.old }
     ensures { Put at (run racks (λ rack. page_line_text reader rack (mark_at page rack))) out.old out.new result }
 {
     let mut to = at;
     for rack in 0..racks {
-        let line = page.at(rack as usize);
-        to = put_page_line(out, to, reader, rack, line);
+        to = put_page_line(out, to, reader, rack, page.at(rack as usize));
     }
     to
 }
@@ -62,6 +53,7 @@ fn put_pages(hall: &[u8], readers: u32, racks: u32, out: &mut [u8], at: usize) -
     to
 }
 
+#[tactic(auto, using(crate::proofs::Turning::put_nothing), unfolding(crate::specs::Rehearsals::pages_text))]
 fn hall_pages(hall: &[u8], readers: u32, racks: u32, out: &mut [u8], at: usize) -> usize
     requires readers_bound { (readers ≤ 4) × (racks ≤ 8) }
     requires pages_room_in_bounds { at + pages_room ≤ length out.old }
@@ -75,17 +67,17 @@ fn hall_pages(hall: &[u8], readers: u32, racks: u32, out: &mut [u8], at: usize) 
 }
 
 // Only after a setup that was granted are there pages.
+#[tactic(auto, using(crate::proofs::Turning::put_nothing))]
 pub(crate) fn stage_pages(hall: &[u8], stage: Stage, out: &mut [u8], at: usize) -> usize
     requires { at + pages_room ≤ length out.old }
     ensures { Put at (stage_pages stage hall.now) out.old out.new result }
 {
     match stage {
-        Stage::Setup => at,
         Stage::Steps { readers, racks } => {
-            let most_readers = least(readers, MOST_READERS);
-            let most_racks = least(racks, MOST_RACKS);
+            let most_readers = readers.min(Setup::MOST_READERS);
+            let most_racks = racks.min(Setup::MOST_RACKS);
             hall_pages(hall, most_readers, most_racks, out, at)
         }
-        Stage::Over => at,
+        Stage::Setup | Stage::Over => at,
     }
 }

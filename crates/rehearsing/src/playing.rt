@@ -21,21 +21,19 @@ fn play_all(hall: &mut [u8], rehearsal: Rehearsal, input: &[u8], out: &mut [u8])
         to: 0,
         from: 0,
     };
+    // A turn takes as many bytes as its line has, so the place moves by parts and no `for` counts it.
     while part.from < input.len() {
-        let state = part.rehearsal;
-        let to = part.to;
-        let from = part.from;
-        part = part_turn(hall, state, input, from, out, to);
+        part = part_turn(hall, part.rehearsal, input, part.from, out, part.to);
     }
-    let state = part.rehearsal;
     Played {
-        rehearsal: state,
+        rehearsal: part.rehearsal,
         to: part.to,
     }
 }
 
 // A piece of the input, of any length: its text goes to the front of the output, which has room for
 // an answer to every byte. Where it has not, nothing is done.
+#[tactic(auto, using(crate::proofs::InParts::turned_none))]
 pub fn play(hall: &mut [u8], rehearsal: Rehearsal, input: &[u8], out: &mut [u8]) -> Played
     ensures { TurnedIn (leb (length input.now) (length out.old / answer_room)) rehearsal hall.old (play_of rehearsal hall.old input.now) hall.new out.old out.new result.rehearsal result.to }
 {
@@ -46,14 +44,14 @@ pub fn play(hall: &mut [u8], rehearsal: Rehearsal, input: &[u8], out: &mut [u8])
     }
 }
 
+#[tactic(auto, using(crate::proofs::InParts::last_line, crate::proofs::InParts::no_last_line))]
 fn last_turn(hall: &mut [u8], rehearsal: Rehearsal, out: &mut [u8]) -> Played
     requires { answer_room ≤ length out.old }
     ensures { Turned (last_turn rehearsal hall.old) 0 hall.new out.old out.new result.rehearsal result.to }
 {
     if rehearsal.begun {
-        let stage = rehearsal.stage;
         let read = rehearsal.scan.finish();
-        line_turn(hall, stage, read, out, 0)
+        line_turn(hall, rehearsal.stage, read, out, 0)
     } else {
         Played { rehearsal, to: 0 }
     }
@@ -64,17 +62,13 @@ fn end_all(hall: &mut [u8], rehearsal: Rehearsal, out: &mut [u8]) -> Played
     ensures { Turned (end_of rehearsal hall.old) 0 hall.new out.old out.new result.rehearsal result.to }
 {
     let last = last_turn(hall, rehearsal, out);
-    let state = last.rehearsal;
-    let stage = state.stage;
-    let to = stage_pages(hall, stage, out, last.to);
-    Played {
-        rehearsal: state,
-        to,
-    }
+    let to = stage_pages(hall, last.rehearsal.stage, out, last.to);
+    Played { to, ..last }
 }
 
 // The end of the input: a last line that lacks its LF, then the pages. Where the output is shorter
 // than END_ROOM, nothing is done.
+#[tactic(auto, using(crate::proofs::InParts::turned_none))]
 pub fn end(hall: &mut [u8], rehearsal: Rehearsal, out: &mut [u8]) -> Played
     ensures { TurnedIn (leb end_room (length out.old)) rehearsal hall.old (end_of rehearsal hall.old) hall.new out.old out.new result.rehearsal result.to }
 {

@@ -58,14 +58,6 @@ impl Rehearsal {
     pub fn over(self) -> bool
         ensures { result ≡ is_over self.stage }
     {
-        let stage = self.stage;
-        match stage {
-            Stage::Setup => false,
-            Stage::Steps {
-                readers: _,
-                racks: _,
-            } => false,
-            Stage::Over => true,
-        }
+        matches!(self.stage, Stage::Over)
     }
 }

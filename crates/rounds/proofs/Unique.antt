@@ -17,8 +17,6 @@ use Rattle.rounds.proofs.round.Round.numbers_in_range.Kinds as round_numbers_in_
 use Rattle.rounds.proofs.round.Round.numbers_in_range.Reads as round_numbers_in_range
 use Rattle.rounds.proofs.round.Round.in_range.Kinds as round_in_range_kinds
 use Rattle.rounds.proofs.round.Round.in_range.Reads as round_in_range
-use Rattle.rounds.proofs.round.Round.same.Kinds as round_same_kinds
-use Rattle.rounds.proofs.round.Round.same.Reads as round_same
 use Rattle.rounds.proofs.round.Round.compare.Kinds as round_compare_kinds
 use Rattle.rounds.proofs.round.Round.compare.Reads as round_compare
 use Rattle.rounds.proofs.setup.some_racks.Kinds as some_racks_kinds
@@ -27,8 +25,6 @@ use Rattle.rounds.proofs.setup.Setup.numbers_in_range.Kinds as setup_numbers_in_
 use Rattle.rounds.proofs.setup.Setup.numbers_in_range.Reads as setup_numbers_in_range
 use Rattle.rounds.proofs.setup.Setup.in_range.Kinds as setup_in_range_kinds
 use Rattle.rounds.proofs.setup.Setup.in_range.Reads as setup_in_range
-use Rattle.rounds.proofs.setup.Setup.same.Kinds as setup_same_kinds
-use Rattle.rounds.proofs.setup.Setup.same.Reads as setup_same
 use Rattle.rounds.proofs.setup.Setup.majority.Kinds as setup_majority_kinds
 use Rattle.rounds.proofs.setup.Setup.majority.Reads as setup_majority
 
@@ -56,9 +52,6 @@ round_numbers_in_range_unique κs a x y s t p q = p ∙ sym q
 pub round_in_range_unique : Determines 0 round_in_range_kinds.ps round_in_range_kinds.r round_in_range.Post
 round_in_range_unique κs a x y s t p q = p ∙ sym q
 
-pub round_same_unique : Determines 0 round_same_kinds.ps round_same_kinds.r round_same.Post
-round_same_unique κs a x y s t p q = p ∙ sym q
-
 pub round_compare_unique : Determines 0 round_compare_kinds.ps round_compare_kinds.r round_compare.Post
 round_compare_unique κs a x y s t p q = p ∙ sym q
 
@@ -70,9 +63,6 @@ setup_numbers_in_range_unique κs a x y s t p q = p ∙ sym q
 
 pub setup_in_range_unique : Determines 0 setup_in_range_kinds.ps setup_in_range_kinds.r setup_in_range.Post
 setup_in_range_unique κs a x y s t p q = p ∙ sym q
-
-pub setup_same_unique : Determines 0 setup_same_kinds.ps setup_same_kinds.r setup_same.Post
-setup_same_unique κs a x y s t p q = p ∙ sym q
 
 pub setup_majority_unique : Determines 0 setup_majority_kinds.ps setup_majority_kinds.r setup_majority.Post
 setup_majority_unique κs a x y s t p q = p ∙ sym q

@@ -2,7 +2,7 @@
 ghost use Rattle.std.specs.Prelude.{◌≡◌};
 ghost use Rattle.rounds.specs.Rounds.{is_below, is_equal, is_above, is_clash, is_up_to};
 
-#[derive(Clone, Copy)]
+#[derive(Clone, Copy, Debug, PartialEq, Eq)]
 pub enum Order {
     Below,
     Equal,
@@ -15,56 +15,31 @@ impl Order {
     pub fn is_below(self) -> bool
         ensures { result ≡ is_below self }
     {
-        match self {
-            Order::Below => true,
-            Order::Equal => false,
-            Order::Above => false,
-            Order::Clash => false,
-        }
+        matches!(self, Order::Below)
     }
 
     pub fn is_equal(self) -> bool
         ensures { result ≡ is_equal self }
     {
-        match self {
-            Order::Below => false,
-            Order::Equal => true,
-            Order::Above => false,
-            Order::Clash => false,
-        }
+        matches!(self, Order::Equal)
     }
 
     pub fn is_above(self) -> bool
         ensures { result ≡ is_above self }
     {
-        match self {
-            Order::Below => false,
-            Order::Equal => false,
-            Order::Above => true,
-            Order::Clash => false,
-        }
+        matches!(self, Order::Above)
     }
 
     pub fn is_clash(self) -> bool
         ensures { result ≡ is_clash self }
     {
-        match self {
-            Order::Below => false,
-            Order::Equal => false,
-            Order::Above => false,
-            Order::Clash => true,
-        }
+        matches!(self, Order::Clash)
     }
 
     // Not above, and no clash.
     pub fn is_up_to(self) -> bool
         ensures { result ≡ is_up_to self }
     {
-        match self {
-            Order::Below => true,
-            Order::Equal => true,
-            Order::Above => false,
-            Order::Clash => false,
-        }
+        matches!(self, Order::Below | Order::Equal)
     }
 }

@@ -1,17 +1,16 @@
 // Rounds.
 ghost use Rattle.std.specs.Prelude.{◌≡◌};
-ghost use Rattle.rounds.specs.Rounds.{zero_of, round_of, same_round, round_in_range, order_of};
+ghost use Rattle.rounds.specs.Rounds.{zero_of, round_of, round_in_range, order_of};
 
 use crate::order::Order;
 use crate::setup::{Setup, some_racks};
-use below::{both, either};
 
 // A round's n.
-#[derive(Clone, Copy)]
+#[derive(Clone, Copy, Debug, PartialEq, Eq)]
 pub struct Number(pub u16);
 
 // (n, c, cf): number, coordinator, and the racks that may speak, as bits.
-#[derive(Clone, Copy)]
+#[derive(Clone, Copy, Debug, PartialEq, Eq)]
 pub struct Round {
     pub n: Number,
     pub c: u8,
@@ -35,33 +34,29 @@ impl Round {
     }
 
     // A round's numbers, any at all, tested whole and never narrowed first.
+    #[tactic(auto, unfolding(crate::specs::Rounds::round_in_range))]
     pub fn numbers_in_range(setup: Setup, n: u32, c: u32, cf: u32) -> bool
         ensures { result ≡ round_in_range setup (round_of n c cf) }
     {
-        let zero = both(n == 0, both(c == setup.c0 as u32, cf == setup.cf0 as u32));
-        let racks = both(some_racks(setup.racks as u32, cf), either(n != 0, zero));
-        both(
-            n <= Number::LARGEST as u32,
-            both(c < setup.coordinators as u32, racks),
-        )
+        n <= u32::from(Number::LARGEST)
+            && c < u32::from(setup.coordinators)
+            && some_racks(u32::from(setup.racks), cf)
+            && (n != 0 || c == u32::from(setup.c0) && cf == u32::from(setup.cf0))
     }
 
     pub fn in_range(self, setup: Setup) -> bool
         ensures { result ≡ round_in_range setup self }
     {
-        Round::numbers_in_range(setup, self.n.0 as u32, self.c as u32, self.cf as u32)
-    }
-
-    pub fn same(self, other: Round) -> bool
-        ensures { result ≡ same_round self other }
-    {
-        both(
-            self.n.0 == other.n.0,
-            both(self.c == other.c, self.cf == other.cf),
+        Round::numbers_in_range(
+            setup,
+            u32::from(self.n.0),
+            u32::from(self.c),
+            u32::from(self.cf),
         )
     }
 
     // How this round stands to the other.
+    #[tactic(auto, unfolding(crate::specs::Rounds::order_of))]
     pub fn compare(self, other: Round) -> Order
         ensures { result ≡ order_of self other }
     {

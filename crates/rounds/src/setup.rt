@@ -1,15 +1,13 @@
 // The setup of a hall, and its majority.
 ghost use Rattle.std.specs.Prelude.{◌≡◌};
-ghost use Rattle.rounds.specs.Setups.{one_to, some_racks, setup_of, setup_in_range, same_setup, majority_of};
-
-use below::both;
+ghost use Rattle.rounds.specs.Setups.{one_to, some_racks, setup_of, setup_in_range, majority_of};
 
 // An instance number, 0 to 65,535.
-#[derive(Clone, Copy)]
+#[derive(Clone, Copy, Debug, PartialEq, Eq)]
 pub struct Instance(pub u16);
 
 // P racks, A boxes, C coordinators, L readers, and round Zero's c and cf.
-#[derive(Clone, Copy)]
+#[derive(Clone, Copy, Debug, PartialEq, Eq)]
 pub struct Setup {
     pub racks: u8,
     pub boxes: u8,
@@ -23,18 +21,15 @@ pub struct Setup {
 fn one_to(limit: u32, x: u32) -> bool
     ensures { result ≡ one_to limit x }
 {
-    if 0 < x { x <= limit } else { false }
+    0 < x && x <= limit
 }
 
 // Whether cf is a non-empty set of the racks below `racks`, as bits.
+#[tactic(auto, using(crate::proofs::Tested::shifted_out, crate::proofs::Tested::racks_many))]
 pub fn some_racks(racks: u32, cf: u32) -> bool
     ensures { result ≡ some_racks racks cf }
 {
-    if 0 < cf {
-        if racks < 32 { cf >> racks == 0 } else { true }
-    } else {
-        false
-    }
+    0 < cf && (racks >= 32 || cf >> racks == 0)
 }
 
 impl Instance {
@@ -51,6 +46,7 @@ impl Setup {
     pub const MOST_READERS: u32 = 4;
 
     // The numbers that set a hall up, any at all, tested whole and never narrowed first.
+    #[tactic(auto, unfolding(crate::specs::Setups::setup_in_range))]
     pub fn numbers_in_range(
         racks: u32,
         boxes: u32,
@@ -61,39 +57,24 @@ impl Setup {
     ) -> bool
         ensures { result ≡ setup_in_range (setup_of racks boxes coordinators readers c0 cf0) }
     {
-        let round_zero = both(c0 < coordinators, some_racks(racks, cf0));
-        let agents = both(
-            one_to(Setup::MOST_COORDINATORS, coordinators),
-            both(one_to(Setup::MOST_READERS, readers), round_zero),
-        );
-        both(
-            one_to(Setup::MOST_RACKS, racks),
-            both(one_to(Setup::MOST_BOXES, boxes), agents),
-        )
+        one_to(Setup::MOST_RACKS, racks)
+            && one_to(Setup::MOST_BOXES, boxes)
+            && one_to(Setup::MOST_COORDINATORS, coordinators)
+            && one_to(Setup::MOST_READERS, readers)
+            && c0 < coordinators
+            && some_racks(racks, cf0)
     }
 
     pub fn in_range(self) -> bool
         ensures { result ≡ setup_in_range self }
     {
         Setup::numbers_in_range(
-            self.racks as u32,
-            self.boxes as u32,
-            self.coordinators as u32,
-            self.readers as u32,
-            self.c0 as u32,
-            self.cf0 as u32,
-        )
-    }
-
-    pub fn same(self, other: Setup) -> bool
-        ensures { result ≡ same_setup self other }
-    {
-        let round_zero = both(self.c0 == other.c0, self.cf0 == other.cf0);
-        let readers = both(self.readers == other.readers, round_zero);
-        let coordinators = both(self.coordinators == other.coordinators, readers);
-        both(
-            self.racks == other.racks,
-            both(self.boxes == other.boxes, coordinators),
+            u32::from(self.racks),
+            u32::from(self.boxes),
+            u32::from(self.coordinators),
+            u32::from(self.readers),
+            u32::from(self.c0),
+            u32::from(self.cf0),
         )
     }
 

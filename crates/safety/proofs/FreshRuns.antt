@@ -10,8 +10,9 @@ use Rattle.rounds.specs.declared.round.Round.{Round}
 use Rattle.rounds.specs.Setups.{setup_in_range}
 use Rattle.records.specs.declared.messages.TwoB.{TwoB}
 use Rattle.records.specs.Rules.{coordinator_rules}
+use Rattle.records.specs.declared.rows.ReaderRow.{ReaderRow}
+use Rattle.records.specs.Answers.{Noted}
 use Rattle.coordinators.specs.Steps.{open_of}
-use Rattle.readers.specs.declared.answer.Noted.{Noted}
 use Rattle.readers.specs.Notes.{note_vote_of}
 use Rattle.readers.specs.Learning.{Learns}
 use Rattle.history.specs.History.{Offer, Offered, Present}
@@ -62,5 +63,5 @@ module _ (s : Setup) (good : setup_in_range s ≡ true) {start hall : View} {off
   note_vote_fits i b m l p =
       note_vote_never_nine s reached.kept.sound (hall.readers i) (reached.kept.readers i l) b m (reached.kept.posted (two_b b m) p)
 
-  pub learn_fits : (i : ℕ) (round : Round) (a : Noted) → i < s.readers → Learns s (hall.readers i) round a → a.refusal ≢ lines_clash
+  pub learn_fits : (i : ℕ) (round : Round) (a : Noted ReaderRow) → i < s.readers → Learns s (hall.readers i) round a → a.refusal ≢ lines_clash
   learn_fits i round a l = learn_never_nine s reached.kept.sound good (hall.readers i) (reached.kept.readers i l) round

@@ -22,9 +22,9 @@ use Rattle.records.specs.declared.rows.CoordinatorRow.{CoordinatorRow}
 use Rattle.records.specs.declared.rows.ReaderRow.{ReaderRow}
 use Rattle.records.specs.Slots.{held_at}
 use Rattle.records.specs.Rules.{coordinator_rules}
-use Rattle.coordinators.specs.declared.answer.Opened.{Opened}
+use Rattle.records.specs.declared.messages.TwoS.{TwoS}
+use Rattle.records.specs.Answers.{Answer, Noted}
 use Rattle.coordinators.specs.Steps.{any_clash, heard_count, joined_votes, open_refusal, open_of}
-use Rattle.readers.specs.declared.answer.Noted.{Noted}
 use Rattle.readers.specs.Notes.{by_order, same_round_refusal, note_vote_refusal, note_vote_of}
 use Rattle.readers.specs.Learning.{Above, JoinsChosen, Learns, too_few, not_compatible, all_nil, learnt}
 use Rattle.readers.specs.Counting.{agreed_page}
@@ -56,14 +56,14 @@ open_never_nine s S good c r t rules h =
     not_nine (eqb r.crnd.c c && not (any_clash r)) wrong_round _ (omega arith)
     (not_nine (not r.cval.some) already_done _ (omega arith)
     (not_nine (leb (majority_of s.boxes) (heard_count r)) no_majority _ (omega arith) (lines_fit (joined_votes r).some (votes_join s S good c r t rules))))
-    (sym (answer_number (λ (a : Opened). a.refusal) (open_refusal s c r) _ _ refl refl) ∙ h)
+    (sym (answer_number (λ (a : Answer CoordinatorRow TwoS). a.refusal) (open_refusal s c r) _ _ refl refl) ∙ h)
 
 -- step 11: two votes of one box in one round extend one another
 pub note_vote_never_nine : (s : Setup) {H : History} → SoundHall s H → (r : ReaderRow) → ReaderTrue s H r → (b : ℕ) (m : TwoB) → Says H (two_b b m) →
     (note_vote_of r b m).refusal ≢ lines_clash
 unfolding note_vote_of note_vote_refusal
 note_vote_never_nine s {H} S r t b m x h =
-    slot (held_at r b).filled refl (sym (answer_number (λ (a : Noted). a.refusal) (note_vote_refusal (held_at r b) m) _ _ refl refl) ∙ h)
+    slot (held_at r b).filled refl (sym (answer_number (λ (a : Noted ReaderRow). a.refusal) (note_vote_refusal (held_at r b) m) _ _ refl refl) ∙ h)
   where
     same : (p q : Page) → (prefix_of p q ≡ true) ⊎ (prefix_of q p ≡ true) → same_round_refusal p q ≢ lines_clash
     same p q = ⊎_elim (λ e. rw e (not_nine (not (prefix_of q p)) already_done granted (omega arith) (omega arith))) (λ e. rw e (omega arith))
@@ -112,7 +112,7 @@ module _ (s : Setup) {H : History} (S : SoundHall s H) (good : setup_in_range s 
           let nil : at w k ≡ Nil = nil_is _ (trivial_lines (racks_below s.racks) w e k (le_trans l S.racks) (lt-ltb k s.racks l)) in
           subst (Chosen s.boxes H k) nil (learnt_shown s r t round good w j k (ap is_absent nil))
 
-  pub learn_never_nine : {a : Noted} → Learns s r round a → a.refusal ≢ lines_clash
+  pub learn_never_nine : {a : Noted ReaderRow} → Learns s r round a → a.refusal ≢ lines_clash
   learn_never_nine (too_few n) = omega arith
   learn_never_nine (not_compatible among y n) = absurd (n _ agreed_joins)
   learn_never_nine (all_nil among y w j e) = absurd (not_trivial w j e)

@@ -9,7 +9,7 @@ use Rattle.rounds.specs.declared.round.Round.{Round}
 use Rattle.records.specs.declared.messages.TwoA.{TwoA}
 use Rattle.records.specs.declared.messages.TwoB.{TwoB}
 use Rattle.records.specs.declared.rows.ReaderRow.{ReaderRow}
-use Rattle.readers.specs.declared.answer.Noted.{Noted}
+use Rattle.records.specs.Answers.{Noted}
 use Rattle.readers.specs.Notes.{note_vote_row, note_vote_of, note_blank_row, note_blank_of}
 use Rattle.readers.specs.Learning.{Learns, too_few, not_compatible, all_nil, learnt}
 use Rattle.readers.proofs.GrantedNotes.{note_vote_granted, note_blank_granted}
@@ -30,12 +30,12 @@ note_blank_page r k m h = ap (λ (x : ReaderRow). x.page) (note_blank_granted r 
 -- the rule for learning gave the reader's new page
 pub record Learnt (s : Setup) (hall hall' : View) (i : ℕ) : Type 0 where
   pub round : Round
-  pub answer : Noted
+  pub answer : Noted ReaderRow
   pub learns : Learns s (hall.readers i) round answer
   pub was_granted : answer.refusal ≡ granted
   pub row_is : hall'.readers i ≡ answer.row
 
-learn_gains : (s : Setup) (r : ReaderRow) (round : Round) {a : Noted} → Learns s r round a → prefix_of r.page a.row.page ≡ true
+learn_gains : (s : Setup) (r : ReaderRow) (round : Round) {a : Noted ReaderRow} → Learns s r round a → prefix_of r.page a.row.page ≡ true
 learn_gains s r round (too_few n) = prefix_of_refl r.page
 learn_gains s r round (not_compatible among y n) = prefix_of_refl r.page
 learn_gains s r round (all_nil among y w j e) = prefix_of_refl r.page

@@ -18,7 +18,7 @@ use Rattle.records.specs.declared.messages.TwoA.{TwoA}
 use Rattle.records.specs.declared.messages.TwoB.{TwoB}
 use Rattle.records.specs.declared.rows.ReaderRow.{ReaderRow}
 use Rattle.records.specs.Slots.{held_at, blank_at}
-use Rattle.readers.specs.declared.answer.Noted.{Noted}
+use Rattle.records.specs.Answers.{Noted}
 use Rattle.readers.specs.Notes.{note_vote_row, note_vote_of, note_blank_row, note_blank_of}
 use Rattle.readers.specs.Learning.{held_in, blank_in, extended, JoinsChosen, Learns, too_few, not_compatible, all_nil, learnt}
 use Rattle.readers.proofs.GrantedNotes.{note_vote_granted, note_blank_granted}
@@ -88,7 +88,7 @@ module _ (s : Setup) {H : History} (r : ReaderRow) (t : ReaderTrue s H r) where
           go (yes l) = ⊎_elim old (majority_chosen k (at w k) h) (learnt_lines s r round w y k l h)
           go (no n) = absurd (absent_or_present (ap (λ (p : Page). at p k) (sym y.whole) ∙ at_past (at w) k (omega (arith, n))) h)
 
-      learn_kept : {a : Noted} → Learns s r round a → ReaderTrue s H a.row
+      learn_kept : {a : Noted ReaderRow} → Learns s r round a → ReaderTrue s H a.row
       unfolding held_at blank_at
       learn_kept (too_few n) = t
       learn_kept (not_compatible among y n) = t
@@ -111,6 +111,6 @@ module _ (s : Setup) {H : History} (S : SoundHall s H) (i : ℕ) (r : ReaderRow)
       let facts = note_blank_granted r k m h in keeps _ (rw facts.row_is (blank_kept s r t k m x facts.blank))
 
   -- step 13, granted or refused
-  pub learn_moves : (round : Round) (a : Noted) → setup_in_range s ≡ true → Learns s r round a →
+  pub learn_moves : (round : Round) (a : Noted ReaderRow) → setup_in_range s ≡ true → Learns s r round a →
       Stepped s (reader i) H.offers H (λ H. ReaderTrue s H a.row) Silent
   learn_moves round a good y = keeps a.row (learn_kept s r t round good y)

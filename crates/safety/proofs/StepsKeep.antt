@@ -12,10 +12,11 @@ use Rattle.records.specs.declared.messages.TwoS.{TwoS}
 use Rattle.records.specs.declared.messages.TwoA.{TwoA}
 use Rattle.records.specs.declared.messages.TwoB.{TwoB}
 use Rattle.records.specs.Rules.{one_a_rules, two_s_rules, two_a_rules, coordinator_rules, box_rules, rack_rules}
+use Rattle.records.specs.declared.rows.ReaderRow.{ReaderRow}
+use Rattle.records.specs.Answers.{Noted}
 use Rattle.racks.specs.Steps.{offer_of, prepare_of, fast_of, blank_of}
 use Rattle.boxes.specs.Steps.{join_of, take_page_of, take_reading_of}
 use Rattle.coordinators.specs.Steps.{start_of, hear_of, open_of}
-use Rattle.readers.specs.declared.answer.Noted.{Noted}
 use Rattle.readers.specs.Notes.{note_vote_of, note_blank_of}
 use Rattle.readers.specs.Learning.{Learns}
 use Rattle.history.specs.History.{Offer, History, Grows}
@@ -66,7 +67,7 @@ pub data Grants (s : Setup) (hall hall' : View) : List Offer → Type 0 where
       hall'.readers i ≡ (note_vote_of (hall.readers i) b m).row → Changes s (reader i) Nothing hall hall' → Grants s hall hall' []
   note_blank : (i k : ℕ) (m : TwoA) → i < s.readers → hall.posted (two_a k m) → (note_blank_of (hall.readers i) k m).refusal ≡ granted →
       hall'.readers i ≡ (note_blank_of (hall.readers i) k m).row → Changes s (reader i) Nothing hall hall' → Grants s hall hall' []
-  learn : (i : ℕ) (round : Round) (a : Noted) → i < s.readers → Learns s (hall.readers i) round a → a.refusal ≡ granted → hall'.readers i ≡ a.row →
+  learn : (i : ℕ) (round : Round) (a : Noted ReaderRow) → i < s.readers → Learns s (hall.readers i) round a → a.refusal ≡ granted → hall'.readers i ≡ a.row →
       Changes s (reader i) Nothing hall hall' → Grants s hall hall' []
 
 -- the rules of messages that the moves rest on

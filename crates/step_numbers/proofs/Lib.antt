@@ -1,3 +1,4 @@
 pub mod StepNumbers
 pub mod SameAct
+pub mod Codes
 pub mod Unique

@@ -13,7 +13,6 @@ ghost use Rattle.hall.specs.Steps.{rows_at, agents_for, is_code, step_exists, nu
 ghost use Rattle.step_numbers.specs.Narrowed.{narrowed};
 
 use acts::{Numbers, Step};
-use below::{both, either};
 use hall::{BOXES_AT, COORDINATORS_AT, MESSAGES_AT, RACKS_AT, READERS_AT};
 use pages::Reading;
 use rounds::{Number, Round, Setup, some_racks};
@@ -53,14 +52,14 @@ pub fn rows_of(setup: Setup, code: u32) -> Rows
 pub fn is_code(code: u32) -> bool
     ensures { result ≡ is_code code }
 {
-    both(0 < code, code <= LAST_CODE)
+    0 < code && code <= LAST_CODE
 }
 
 // Offer, start, open and learn name no message.
 fn names(code: u32) -> bool
     ensures { result ≡ names code }
 {
-    !either(code <= 2, either(code == 5, code == LAST_CODE))
+    !(code <= 2 || code == 5 || code == LAST_CODE)
 }
 
 // The block of the message that a step names; of a step that names none, any block of the post.
@@ -74,29 +73,26 @@ pub fn message_place(code: u32, message: u32) -> usize
     }
 }
 
+#[tactic(auto, unfolding(hall::specs::Steps::step_exists))]
 pub fn step_exists(setup: Setup, count: u16, step: Step) -> bool
     ensures { result ≡ step_exists setup count step }
 {
-    let rows = rows_of(setup, step.code);
-    let agent = both(is_code(step.code), step.agent < rows.agents as u32);
-    both(
-        agent,
-        either(!names(step.code), step.message < count as u32),
-    )
+    is_code(step.code)
+        && step.agent < u32::from(rows_of(setup, step.code).agents)
+        && (!names(step.code) || step.message < u32::from(count))
 }
 
 fn start_in_range(setup: Setup, n: u32, cf: u32) -> bool
     ensures { result ≡ one_to largest_number n && some_racks setup.racks cf }
 {
-    let number = both(0 < n, n <= Number::LARGEST as u32);
-    both(number, some_racks(setup.racks as u32, cf))
+    0 < n && n <= u32::from(Number::LARGEST) && some_racks(u32::from(setup.racks), cf)
 }
 
+#[tactic(auto, unfolding(hall::specs::Steps::numbers_in_range))]
 pub fn numbers_in_range(setup: Setup, step: Step) -> bool
     ensures { result ≡ numbers_in_range setup step }
 {
-    let code = step.code;
-    match code {
+    match step.code {
         1 => Reading(step.reading).in_range(),
         2 => start_in_range(setup, step.n, step.cf),
         13 => Round::numbers_in_range(setup, step.n, step.c, step.cf),
@@ -108,10 +104,12 @@ pub fn numbers_in_range(setup: Setup, step: Step) -> bool
 pub fn narrow(step: Step) -> Numbers
     ensures { result ≡ narrowed step }
 {
-    let n = Number((step.n % 65536) as u16);
-    let c = (step.c % 256) as u8;
-    let cf = (step.cf % 256) as u8;
-    let round = Round { n, c, cf };
-    let reading = Reading(step.reading);
-    Numbers { round, reading }
+    Numbers {
+        round: Round {
+            n: Number((step.n % 65536) as u16),
+            c: (step.c % 256) as u8,
+            cf: (step.cf % 256) as u8,
+        },
+        reading: Reading(step.reading),
+    }
 }

@@ -1,8 +1,9 @@
 -- Laws of `splice`.
-use Rattle.std.proofs.Common.{add-zero, ◌≡◌, ℕ, ◌+◌, ◌<◌, ◌≤◌, List, [], ◌∷◌, ◌++◌, length, get_or, take, drop, set, sym, ap, ◌∙◌, subst, append_assoc, append-nil, add_assoc, add-one, arith, length-append, length-drop, length-set, take-append-drop, drop_of_length-le, length-take-le, get_or-drop, get_or-take, drop-drop, take_at, get_or-append-add}
+use Rattle.std.proofs.Common.{add-zero, ◌≡◌, ℕ, ◌+◌, ◌/◌, ◌%◌, ◌^◌, refl, ◌<◌, ◌≤◌, List, [], ◌∷◌, ◌++◌, length, get_or, take, drop, set, sym, ap, ◌∙◌, subst, append_assoc, append-nil, add_assoc, add-one, arith, length-append, length-drop, length-set, take-append-drop, drop_of_length-le, length-take-le, get_or-drop, get_or-take, drop-drop, take_at, get_or-append-add}
 use Rattle.std.proofs.Math.ListN.{get_or-append}
 use Rattle.std.proofs.Math.Seq.{set_split, drop-append-add}
-use Rattle.words.specs.Bytes.{splice, Spliced}
+use Rattle.std.specs.Int.{w16, w32, to_le_bytes}
+use Rattle.words.specs.Bytes.{splice, Spliced, bytes2, bytes4}
 
 -- a splice that fits keeps the length
 pub length-splice : (at : ℕ) (new old : List ℕ) → at + length new ≤ length old → length (splice at new old) ≡ length old
@@ -13,6 +14,40 @@ length-splice at new old h = simp (length-append, length-drop, length-take-le at
 pub stored : (at x : ℕ) (old : List ℕ) → at + 1 ≤ length old → Spliced at (x ∷ []) old (set old at x)
 unfolding splice
 stored at x old h = record { is = set_split old at x (omega arith) ∙ ap (λ (n : ℕ). take at old ++ (x ∷ drop n old)) (sym (add-one at)); kept = length-set old at x }
+
+-- a part of n bytes, and one written as a whole
+pub length-part : (at n : ℕ) {k : ℕ} (old : List ℕ) → k ≡ n → at + n ≤ length old → length (take k (drop at old)) ≡ n
+length-part at n {k} old e h = length-take-le k (drop at old) (simp length-drop (omega arith)) ∙ e
+
+pub placed : (at n : ℕ) {k : ℕ} {new part old : List ℕ} → part ≡ new → length new ≡ n → k ≡ n → at + n ≤ length old →
+    Spliced at new old (take at old ++ (part ++ drop k (drop at old)))
+unfolding splice
+placed at n {k} {new} {part} {old} p q r h = record { is = same; kept = ap length same ∙ length-splice at new old (omega (arith, q)) }
+  where
+    same : take at old ++ (part ++ drop k (drop at old)) ≡ take at old ++ (new ++ drop (at + length new) old)
+    same = rw p (ap (λ (l : List ℕ). take at old ++ (new ++ l)) (drop-drop k at old ∙ ap (λ (m : ℕ). drop (at + m) old) (r ∙ sym q)))
+
+-- the bytes of a number, as the library has them
+pub two_bytes : (x : ℕ) → x < 2 ^ 16 → to_le_bytes w16 x ≡ bytes2 x
+two_bytes x h = λ i. (x % 256) ∷ (high i ∷ [])
+  where
+    high : x / 256 % 256 ≡ x / 256
+    high = omega arith
+
+pub four_bytes : (x : ℕ) → x < 2 ^ 32 → to_le_bytes w32 x ≡ bytes4 x
+four_bytes x h = λ i. b0 i ∷ (b1 i ∷ (b2 i ∷ (b3 i ∷ [])))
+  where
+    b0 : x % 256 ≡ x % 65536 % 256
+    b0 = omega arith
+
+    b1 : x / 256 % 256 ≡ x % 65536 / 256
+    b1 = omega arith
+
+    b2 : x / 65536 % 256 ≡ x / 65536 % 256
+    b2 = refl
+
+    b3 : x / 16777216 % 256 ≡ x / 65536 / 256
+    b3 = omega arith
 
 -- nothing written
 pub splice_none : (at : ℕ) (old : List ℕ) → splice at [] old ≡ old

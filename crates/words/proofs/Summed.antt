@@ -1,5 +1,5 @@
 -- Laws of the check words: one word more, a run of words more, words that agree, words added, and the sums of 126 words by thirds.
-use Rattle.std.proofs.Common.{◌≡◌, ℕ, zero, suc, ◌+◌, ◌*◌, ◌/◌, ◌%◌, ◌^◌, ◌<◌, ◌≤◌, List, length, get_or, set, sym, refl, ap, ◌∙◌, subst, add-zero, add-suc, suc-mul, add-mul, le_antisymm, zero-add, add-one, arith}
+use Rattle.std.proofs.Common.{◌≡◌, ℕ, zero, suc, ◌+◌, ◌*◌, ◌/◌, ◌%◌, ◌^◌, ◌<◌, ◌≤◌, List, length, get_or, set, sym, refl, ap, ◌∙◌, subst, add-zero, add-suc, suc-mul, le_antisymm, zero-add, add-one, arith}
 use Rattle.std.proofs.Math.Nat.{add-mul-mod_self_right}
 use Rattle.below.specs.Below.{row}
 use Rattle.below.proofs.Rows.{row_at, filled, filled_more}
@@ -15,28 +15,6 @@ wrap_right a b = omega arith
 
 wrap : {a b : ℕ} → a ≡ b → a % 2 ^ 32 ≡ b % 2 ^ 32
 wrap e = rw e
-
--- sums of multiples of a number
-multiples : (x a m b n : ℕ) → a ≡ (m * x) % 2 ^ 32 → b ≡ (n * x) % 2 ^ 32 → (a + b) % 2 ^ 32 ≡ ((m + n) * x) % 2 ^ 32
-multiples x a m b n e f = rw (e, f) (wrap_left (m * x) ((n * x) % 2 ^ 32) ∙ wrap_right (m * x) (n * x) ∙ wrap (sym (add-mul m n x)))
-
--- doubled, and doubled again: forty_two is thirty-two and eight and two
-pub forty_two : (x : ℕ) {two four eight ten sixteen more all : ℕ} → two ≡ (x + x) % 2 ^ 32 → four ≡ (two + two) % 2 ^ 32 → eight ≡ (four + four) % 2 ^ 32 →
-    ten ≡ (eight + two) % 2 ^ 32 → sixteen ≡ (eight + eight) % 2 ^ 32 → more ≡ (sixteen + sixteen) % 2 ^ 32 → all ≡ (more + ten) % 2 ^ 32 → all ≡ (42 * x) % 2 ^ 32
-forty_two x {two} {four} {eight} {ten} {sixteen} {more} p q r s t u v =
-    v ∙ multiples x more 32 ten 10 (u ∙ multiples x sixteen 16 sixteen 16 sixteen_is sixteen_is) (s ∙ multiples x eight 8 two 2 eight_is two_is)
-  where
-    two_is : two ≡ (2 * x) % 2 ^ 32
-    two_is = p ∙ wrap (omega arith)
-
-    four_is : four ≡ (4 * x) % 2 ^ 32
-    four_is = q ∙ multiples x two 2 two 2 two_is two_is
-
-    eight_is : eight ≡ (8 * x) % 2 ^ 32
-    eight_is = r ∙ multiples x four 4 four 4 four_is four_is
-
-    sixteen_is : sixteen ≡ (16 * x) % 2 ^ 32
-    sixteen_is = t ∙ multiples x eight 8 eight 8 eight_is eight_is
 
 four_terms : (a b x y : ℕ) → ((a + b) % 2 ^ 32 + (x + y) % 2 ^ 32) % 2 ^ 32 ≡ ((a + x) % 2 ^ 32 + (b + y) % 2 ^ 32) % 2 ^ 32
 four_terms a b x y =
@@ -155,7 +133,7 @@ module _ (word : ℕ → ℕ) where
       f_is = next 84 h_is r g
 
   -- the second: those first sums, once for each word of their third, and the second sum of the thirds laid together
-  pub seconds : {m h t s b i r : ℕ} → m ≡ first_sum 1 42 word → h ≡ first_sum 1 84 word → t ≡ (1 + m) % 2 ^ 32 → s ≡ (t + h) % 2 ^ 32 → b ≡ (42 * s) % 2 ^ 32 →
+  pub seconds : {m h t s b i r : ℕ} → m ≡ first_sum 1 42 word → h ≡ first_sum 1 84 word → t ≡ (1 + m) % 2 ^ 32 → s ≡ (t + h) % 2 ^ 32 → b ≡ (s * 42) % 2 ^ 32 →
       i ≡ second_sum 0 42 (together word) → r ≡ (b + i) % 2 ^ 32 → r ≡ second_sum 1 126 word
   seconds {m} {h} {t} {s} {b} {i} p q d e g j k =
       k ∙ parts b_is i_is ∙ wrap_left (42 * (1 + m + h)) ((y0 + y1 + y2) % 2 ^ 32) ∙ wrap_right (42 * (1 + m + h)) (y0 + y1 + y2) ∙ wrap (omega arith) ∙ sym whole
@@ -173,7 +151,7 @@ module _ (word : ℕ → ℕ) where
       parts u v = rw (u, v)
 
       b_is : b ≡ (42 * (1 + m + h)) % 2 ^ 32
-      b_is = g ∙ times s (1 + m + h) (e ∙ ap (λ (x : ℕ). (x + h) % 2 ^ 32) d ∙ wrap_left (1 + m) h)
+      b_is = g ∙ wrap (omega arith) ∙ times s (1 + m + h) (e ∙ ap (λ (x : ℕ). (x + h) % 2 ^ 32) d ∙ wrap_left (1 + m) h)
         where
           times : (x y : ℕ) → x ≡ y % 2 ^ 32 → (42 * x) % 2 ^ 32 ≡ (42 * y) % 2 ^ 32
           times x y z = sym (wrap (omega (arith, z)) ∙ add-mul-mod_self_right (42 * x) (42 * (y / 2 ^ 32)) (2 ^ 32))

@@ -3,24 +3,13 @@ ghost use Rattle.std.specs.Prelude.{◌≡◌, ◌+◌, ◌*◌, ◌<◌, ◌≤
 ghost use Rattle.words.specs.Bytes.{zero_at, zeros, Spliced};
 ghost use Rattle.words.specs.Sums.{words};
 
-use crate::numbers::{get_u32, put_u8};
+use crate::numbers::get_u32;
 
 pub fn zero_bytes(bytes: &[u8], at: usize, n: usize) -> bool
     requires { at + n ≤ length bytes.now }
     ensures { result ≡ zero_at n bytes.now at }
 {
-    for k in 0..n {
-        if bytes[at + k] != 0 {
-            return false;
-        }
-    }
-    true
-}
-
-fn wide(x: u32) -> u64
-    ensures { (result ≡ x) × (result < 4294967296) }
-{
-    x as u64
+    bytes[at..at + n].iter().all(|byte| *byte == 0)
 }
 
 // The same four bytes at a time, for the long run behind a body, which no block has more than 126 words of.
@@ -31,7 +20,7 @@ pub fn zero_words(bytes: &[u8], at: usize, n: usize) -> bool
 {
     let mut total: u64 = 0;
     for k in 0..n {
-        total += wide(get_u32(bytes, at + 4 * k));
+        total += u64::from(get_u32(bytes, at + 4 * k));
     }
     total == 0
 }
@@ -40,7 +29,5 @@ pub fn put_zeros(bytes: &mut [u8], at: usize, n: usize)
     requires { at + n ≤ length bytes.old }
     ensures { Spliced at (zeros n) bytes.old bytes.new }
 {
-    for k in 0..n {
-        put_u8(bytes, at + k, 0);
-    }
+    bytes[at..at + n].fill(0);
 }

@@ -1,50 +1,49 @@
-use Rattle.std.proofs.Common.{rules, ap, ℕ, ◌+◌, arith, sym, ◌∙◌}
-use Rattle.hall_step.proofs.Parts.{part_is, part_size}
-use Rattle.hall_step.proofs.Stepping.{code_within, place_within, message_fits, own_row, own_message, own_hall, act_refused, post_is_full, stepped}
+use Rattle.std.proofs.Common.{rules, ap, ℕ, ◌+◌, arith, sym, ◌∙◌, ◌≡◌, Bool, false, cond}
+use Rattle.below.specs.Refusals.{number, number_of, value_or}
+use Rattle.below.proofs.Refused.{number_some}
+use Rattle.below.specs.declared.refusals.Refusal.TheVariants.{PostFull}
+use Rattle.hall.specs.Steps.{fits, posted}
+use Rattle.hall_step.proofs.Parts.{part_is}
+use Rattle.hall_step.proofs.Stepping.{place_within, message_fits, own_row, own_message, own_hall, act_refused, post_is_full, stepped, unless_passed, unless_failed}
+use Rattle.hall_step.proofs.step_on_blocks.Goals.{then-sends, else-sends}
 use Rattle.hall_step.proofs.step_on_blocks.Goals as goal
 
 pub overflow_add-place : goal.overflow_add-place
-overflow_add-place c = omega (arith, place_within _ _ c.requires c.rows_of-rows.ensures.0)
+overflow_add-place c = omega (arith, place_within _ _ c.requires.reached c.rows_of-rows.ensures.0)
 
 pub overflow_mul-at : goal.overflow_mul-at
-overflow_mul-at c = omega (arith, place_within _ _ c.requires c.rows_of-rows.ensures.0)
+overflow_mul-at c = omega (arith, place_within _ _ c.requires.reached c.rows_of-rows.ensures.0)
 
 pub overflow_add-end : goal.overflow_add-end
-overflow_add-end c = omega (arith, place_within _ _ c.requires c.rows_of-rows.ensures.0)
+overflow_add-end c = omega (arith, place_within _ _ c.requires.reached c.rows_of-rows.ensures.0)
 
-pub overflow_mul-from : goal.overflow_mul-from
-overflow_mul-from c = omega (arith, message_fits _ _ c.requires c.message_place-from.ensures)
-
-pub overflow_add-to : goal.overflow_add-to
-overflow_add-to c = omega (arith, message_fits _ _ c.requires c.message_place-from.ensures)
-
-pub overflow_cast-agent : goal.overflow_cast-agent
-overflow_cast-agent c = record { fits = omega (arith, place_within _ _ c.requires c.rows_of-rows.ensures.0) }
+pub overflow_cast-own : goal.overflow_cast-own
+overflow_cast-own c = record { fits = omega (arith, place_within _ _ c.requires.reached c.rows_of-rows.ensures.0) }
 
 pub slice_bounds-act-end : goal.slice_bounds-act-end
-slice_bounds-act-end c = omega (arith, place_within _ _ c.requires c.rows_of-rows.ensures.0, c.requires.long)
+slice_bounds-act-end c = omega (arith, place_within _ _ c.requires.reached c.rows_of-rows.ensures.0, c.requires.reached.long)
 
 pub slice_bounds-act-end-2 : goal.slice_bounds-act-end-2
-slice_bounds-act-end-2 c = omega (arith, message_fits _ _ c.requires c.message_place-from.ensures, c.requires.long)
+slice_bounds-act-end-2 c = omega (arith, message_fits _ _ c.requires.reached c.message_place-from.ensures, c.requires.reached.long)
 
-pub act-acted-requires : goal.act-acted-requires
-act-acted-requires c = (code_within _ _ c.requires, (part_size c.args.hall.now (c.rows_of-rows.result.first + c.args.step.agent) c.requires.long (omega (arith, place_within _ _ c.requires c.rows_of-rows.ensures.0)), (part_size c.args.hall.now c.message_place-from.result c.requires.long (message_fits _ _ c.requires c.message_place-from.ensures), (search rules, search rules))))
+pub returns-in_err-sends : goal.returns-in_err-sends
+returns-in_err-sends c =
+    let e : number_of c.act.result ≡ number_of c.from_residual.result = search rules in
+    rw (← e) (act_refused _ _ c.requires.reached (own_hall _ _ c.requires.reached) c.narrow.ensures (own_row _ _ c.requires.reached c.rows_of-rows.ensures.0 (part_is _ _)) (own_message _ _ c.requires.reached c.message_place-from.ensures (part_is _ _)) (rw c.requires.coded at c.act.ensures)
+    (λ z. number_some _ (sym (ap number_of c.in_err-sends.was) ∙ z)))
 
-pub returns-then-acted-ne0 : goal.returns-then-acted-ne0
-returns-then-acted-ne0 c = act_refused _ _ c.requires (own_hall _ _ c.requires) c.narrow-numbers.ensures (own_row _ _ c.requires c.rows_of-rows.ensures.0 (part_is _ _)) (own_message _ _ c.requires c.message_place-from.ensures (part_is _ _)) c.act-acted.ensures c.if-acted-ne0.true
-
-pub returns-then-not-either : goal.returns-then-not-either
-returns-then-not-either c = post_is_full _ _ c.requires (own_hall _ _ c.requires) c.narrow-numbers.ensures (own_row _ _ c.requires c.rows_of-rows.ensures.0 (part_is _ _)) (own_message _ _ c.requires c.message_place-from.ensures (part_is _ _)) c.act-acted.ensures c.if-acted-ne0.false (sym c.either.ensures ∙ c.if-not-either.true)
-
-pub post-requires : goal.post-requires
-post-requires c = record {
-  hall_len = (c.requires.long, search rules);
-  stamp_value = (c.requires.stamped, c.requires.counted);
-  count_value = sym c.either.ensures ∙ c.if-not-either.false;
-}
-
-pub put_block-requires : goal.put_block-requires
-put_block-requires c = (c.post.auto.hall ∙ c.requires.long, (omega (arith, place_within _ _ c.requires c.rows_of-rows.ensures.0), search rules))
+pub returns-in_err-unless : goal.returns-in_err-unless
+returns-in_err-unless c =
+    let f : (c.fits.result ≡ false) × (c.in_err-unless.field-0.0 ≡ PostFull) = unless_failed _ _ _ c.unless.ensures c.in_err-unless.was in
+    let e : number PostFull ≡ number_of c.from_residual-in_err-unless.result = search (rules, f.1) in
+    rw (← e) (post_is_full _ _ c.requires.reached (own_hall _ _ c.requires.reached) c.narrow.ensures (own_row _ _ c.requires.reached c.rows_of-rows.ensures.0 (part_is _ _)) (own_message _ _ c.requires.reached c.message_place-from.ensures (part_is _ _))
+    (rw c.requires.coded at c.act.ensures) (ap number_of c.in_ok-sends.was) (ap (λ (b : Bool). fits b c.args.count) (ap (value_or false) c.in_ok-sends.was) ∙ sym c.fits.ensures ∙ f.0))
 
 pub returns : goal.returns
-returns c = stepped _ _ c.requires (own_hall _ _ c.requires) c.narrow-numbers.ensures (own_row _ _ c.requires c.rows_of-rows.ensures.0 (part_is _ _)) (own_message _ _ c.requires c.message_place-from.ensures (part_is _ _)) c.act-acted.ensures c.if-acted-ne0.false (ap (λ (n : ℕ). n + c.args.step.agent) c.rows_of-rows.ensures.0) (sym c.either.ensures ∙ c.if-not-either.false) c.post.ensures c.put_block.ensures
+returns c =
+    let v : value_or false c.act.result ≡ c.in_ok-sends.sends = ap (value_or false) c.in_ok-sends.was in
+    let m : c.if-sends.hall ≡ cond (value_or false c.act.result) (posted c.act.new.sent c.args.hall.now) c.args.hall.now =
+    elim c.if-sends.branch [ then-sends w ↦ w.hall-is ∙ w.post.ensures ∙ rw (v, w.if-sends.true) | else-sends w ↦ w.hall-is ∙ rw (v, w.if-sends.false) ] in
+    stepped _ _ c.requires.reached (own_hall _ _ c.requires.reached) c.narrow.ensures (own_row _ _ c.requires.reached c.rows_of-rows.ensures.0 (part_is _ _)) (own_message _ _ c.requires.reached c.message_place-from.ensures (part_is _ _))
+    (rw c.requires.coded at c.act.ensures) (ap number_of c.in_ok-sends.was) (ap (λ (n : ℕ). n + c.args.step.agent) c.rows_of-rows.ensures.0)
+    (ap (λ (b : Bool). fits b c.args.count) v ∙ sym c.fits.ensures ∙ unless_passed _ _ c.unless.ensures c.in_ok-unless.was) m c.put_block.ensures

@@ -1,6 +1,5 @@
-use Rattle.std.proofs.Common.{◌≤◌}
 use Rattle.book.specs.Book.{Judges}
 use Rattle.book.proofs.judging.judge.Given as goal
 
 abbrev pub invariant-loop-place : goal.invariant-loop-place
-invariant-loop-place l = (l.place ≤ l.count) × Judges l.blocks l.place l.good l.placed l.readers
+invariant-loop-place l = Judges l.blocks l.place l.judged.good l.judged.in_place l.judged.readers

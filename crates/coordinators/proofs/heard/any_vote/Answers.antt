@@ -1,20 +1,11 @@
 use Rattle.std.proofs.Common.{rules}
-use Rattle.below.proofs.Tests.{any_start, any_more, any_left, any_ends}
+use Rattle.below.proofs.Runs.{any_in}
+use Rattle.pages.proofs.Filled.{length_mapped}
+use Rattle.rounds.specs.Setups.{most_boxes}
 use Rattle.records.specs.Slots.{heard_at}
-use Rattle.coordinators.specs.Steps.{any_vote}
+use Rattle.coordinators.specs.Steps.{is_vote, any_vote}
 use Rattle.coordinators.proofs.heard.any_vote.Goals as goal
 
-pub returns-then-is_vote : goal.returns-then-is_vote
-unfolding heard_at any_vote
-returns-then-is_vote c = any_left _ _ c.loop-k-test.true c.is_vote.ensures c.if-is_vote.true
-
-pub loop-k-preserved : goal.loop-k-preserved
-unfolding heard_at
-loop-k-preserved c = (search rules, any_more _ c.loop-k.invariant.1 c.is_vote.ensures c.if-is_vote.false)
-
 pub returns : goal.returns
-unfolding any_vote
-returns c = any_ends _ _ c.loop-k.invariant.1 (search rules) (search rules)
-
-pub loop-k-init : goal.loop-k-init
-loop-k-init c = (search rules, any_start _)
+unfolding heard_at any_vote
+returns c = any_in {xs = c.args.row.heard} _ most_boxes (λ h. is_vote h) _ c.any.ensures.ran (cc) (search length_mapped) (λ x b q k. search rules)

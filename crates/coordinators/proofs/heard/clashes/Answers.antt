@@ -1,18 +1,11 @@
 use Rattle.std.proofs.Common.{rules}
-use Rattle.below.proofs.Tests.{any_start, any_more, any_left, any_ends}
+use Rattle.below.proofs.Runs.{any_in}
+use Rattle.pages.proofs.Filled.{length_mapped}
+use Rattle.rounds.specs.Setups.{most_boxes}
 use Rattle.records.specs.Slots.{heard_at}
+use Rattle.coordinators.specs.Steps.{clashing}
 use Rattle.coordinators.proofs.heard.clashes.Goals as goal
 
-pub returns-then-clashing : goal.returns-then-clashing
-unfolding heard_at
-returns-then-clashing c = any_left _ _ c.loop-k-test.true c.clashing.ensures c.if-clashing.true
-
-pub loop-k-preserved : goal.loop-k-preserved
-unfolding heard_at
-loop-k-preserved c = (search rules, any_more _ c.loop-k.invariant.1 c.clashing.ensures c.if-clashing.false)
-
-pub loop-k-init : goal.loop-k-init
-loop-k-init c = (search rules, any_start _)
-
 pub returns : goal.returns
-returns c = any_ends _ _ c.loop-k.invariant.1 (search rules) (search rules)
+unfolding heard_at
+returns c = any_in {xs = c.args.row.heard} _ most_boxes (λ h. clashing c.args.mine h) _ c.any.ensures.ran (cc) (search length_mapped) (λ x b q k. search rules)

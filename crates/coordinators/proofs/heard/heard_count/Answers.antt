@@ -1,19 +1,12 @@
-use Rattle.std.proofs.Common.{rules, refl, arith}
-use Rattle.below.proofs.Counts.{count_start, count_add, count_ends}
+use Rattle.std.proofs.Common.{rules}
+use Rattle.below.proofs.Tallies.{count_in}
+use Rattle.pages.proofs.Filled.{length_mapped}
+use Rattle.rounds.specs.Setups.{most_boxes}
+use Rattle.records.specs.declared.slots.Heard.{Heard}
 use Rattle.records.specs.Slots.{heard_at}
 use Rattle.coordinators.specs.Steps.{heard_count}
 use Rattle.coordinators.proofs.heard.heard_count.Goals as goal
 
-pub overflow_add-total : goal.overflow_add-total
-overflow_add-total c = omega (arith, c.loop-k.invariant.1.0, c.one_if-total.ensures.1)
-
-pub loop-k-preserved : goal.loop-k-preserved
-unfolding heard_at
-loop-k-preserved c = (search rules, (omega (arith, c.loop-k.invariant.1.0, c.one_if-total.ensures.1), count_add _ c.loop-k.invariant.1.1 refl c.one_if-total.ensures.0))
-
 pub returns : goal.returns
-unfolding heard_count
-returns c = count_ends _ _ _ _ c.loop-k.invariant.1.1 (search rules) (search rules)
-
-pub loop-k-init : goal.loop-k-init
-loop-k-init c = (search rules, (search rules, count_start _))
+unfolding heard_at heard_count
+returns c = count_in {xs = c.args.row.heard} most_boxes (λ (h : Heard). h.filled) _ _ c.count.ensures.ran (cc) (search rules) (search length_mapped) (λ x b q k. search rules)

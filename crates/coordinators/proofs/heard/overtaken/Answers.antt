@@ -1,18 +1,11 @@
 use Rattle.std.proofs.Common.{rules}
-use Rattle.below.proofs.Tests.{any_start, any_more, any_left, any_ends}
+use Rattle.below.proofs.Runs.{any_in}
+use Rattle.pages.proofs.Filled.{length_mapped}
+use Rattle.rounds.specs.Setups.{most_boxes}
 use Rattle.records.specs.Slots.{heard_at}
+use Rattle.coordinators.specs.Steps.{higher}
 use Rattle.coordinators.proofs.heard.overtaken.Goals as goal
 
-pub returns-then-higher : goal.returns-then-higher
-unfolding heard_at
-returns-then-higher c = any_left _ _ c.loop-k-test.true c.higher.ensures c.if-higher.true
-
-pub loop-k-preserved : goal.loop-k-preserved
-unfolding heard_at
-loop-k-preserved c = (search rules, any_more _ c.loop-k.invariant.1 c.higher.ensures c.if-higher.false)
-
-pub loop-k-init : goal.loop-k-init
-loop-k-init c = (search rules, any_start _)
-
 pub returns : goal.returns
-returns c = any_ends _ _ c.loop-k.invariant.1 (search rules) (search rules)
+unfolding heard_at
+returns c = any_in {xs = c.args.row.heard} _ most_boxes (λ h. higher h c.args.mine) _ c.any.ensures.ran (cc) (search length_mapped) (λ x b q k. search rules)

@@ -2,11 +2,5 @@ use Rattle.std.proofs.Common.{arith}
 use Rattle.lines.proofs.Writing.{put_next, decimal_short}
 use Rattle.lines.proofs.text.put_field.Goals as goal
 
-pub put_decimal-next-requires : goal.put_decimal-next-requires
-put_decimal-next-requires c = omega (arith, decimal_short c.args.n)
-
-pub put-requires : goal.put-requires
-put-requires c = omega (arith, decimal_short c.args.n, c.put_decimal-next.ensures.ends, c.put_decimal-next.ensures.spliced.kept)
-
 pub returns : goal.returns
 returns c = put_next (omega (arith, decimal_short c.args.n)) c.put_decimal-next.ensures c.put.ensures

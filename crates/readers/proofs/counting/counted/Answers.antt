@@ -1,8 +1,9 @@
-use Rattle.readers.proofs.CountedWays.{counted_enough, counted_few}
+use Rattle.std.proofs.Common.{rules, ◌∙◌}
+use Rattle.readers.proofs.CountedWays.{counted_enough}
 use Rattle.readers.proofs.counting.counted.Goals as goal
 
-pub returns-then-need-pages : goal.returns-then-need-pages
-returns-then-need-pages c = counted_enough _ _ _ c.majority-need.ensures c.blank_racks-blanks.ensures c.held_pages-pages.ensures c.if-need-pages.true c.agreed_page-chosen.ensures c.join_chosen-learnt.ensures
+pub returns-in_err-page : goal.returns-in_err-page
+returns-in_err-page c = search rules ∙ counted_enough c.args.setup c.args.row c.args.round (c.from-need.ensures ∙ c.majority.ensures) c.blank_racks-blanks.ensures c.held_pages-pages.ensures (search rules) c.agreed_page-chosen.ensures c.in_err-page.ensures
 
-pub returns-else-need-pages : goal.returns-else-need-pages
-returns-else-need-pages c = counted_few _ _ _ _ c.majority-need.ensures c.held_pages-pages.ensures c.if-need-pages.false
+pub returns : goal.returns
+returns c = counted_enough c.args.setup c.args.row c.args.round (c.from-need.ensures ∙ c.majority.ensures) c.blank_racks-blanks.ensures c.held_pages-pages.ensures (search rules) c.agreed_page-chosen.ensures c.in_ok-page.ensures

@@ -8,7 +8,7 @@ loop-rack-init c = (search rules, run_start _ _ _)
 pub loop-rack-preserved : goal.loop-rack-preserved
 loop-rack-preserved c =
     let room = rack_room _ _ _ c.requires c.loop-rack-test.true c.loop-rack.invariant.1 in
-    (search rules, run_more _ room.1 c.loop-rack.invariant.1 (rack_line _ _ _ c.at-line.ensures room.0 c.put_page_line-to.ensures))
+    (search rules, run_more _ room.1 c.loop-rack.invariant.1 (rack_line _ _ _ c.at.ensures room.0 c.put_page_line-to.ensures))
 
 pub shape_of-out : goal.shape_of-out
 shape_of-out c = c.loop-rack.invariant.1.spliced.kept

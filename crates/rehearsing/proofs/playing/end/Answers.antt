@@ -1,10 +1,6 @@
 use Rattle.std.proofs.Common.{le-leb}
-use borrow.Author.Tests.{lt-leb}
-use Rattle.rehearsing.proofs.InParts.{turned_in, turned_none}
+use Rattle.rehearsing.proofs.InParts.{turned_in}
 use Rattle.rehearsing.proofs.playing.end.Goals as goal
 
 pub returns-then-out-ge-END_ROOM : goal.returns-then-out-ge-END_ROOM
 returns-then-out-ge-END_ROOM c = turned_in (le-leb _ _ c.if-out-ge-END_ROOM.true) c.end_all.ensures
-
-pub returns-else-out-ge-END_ROOM : goal.returns-else-out-ge-END_ROOM
-returns-else-out-ge-END_ROOM c = turned_none _ _ _ _ (lt-leb _ _ c.if-out-ge-END_ROOM.false)

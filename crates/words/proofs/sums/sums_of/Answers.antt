@@ -4,4 +4,7 @@ use Rattle.words.proofs.Summed.{third_at, firsts, together_sum, seconds}
 use Rattle.words.proofs.sums.sums_of.Goals as goal
 
 pub returns : goal.returns
-returns c = ((firsts (word_of c.args.block.now) (third_at c.args.block.now 0 0 refl c.third_sum.ensures) (third_at c.args.block.now 168 42 refl c.third_sum-2.ensures) (third_at c.args.block.now 336 84 refl c.third_sum-3.ensures) c.wrapping_add_u32-middle.ensures.value c.wrapping_add_u32-high.ensures.value c.wrapping_add_u32-first.ensures.value).1.1, seconds (word_of c.args.block.now) (firsts (word_of c.args.block.now) (third_at c.args.block.now 0 0 refl c.third_sum.ensures) (third_at c.args.block.now 168 42 refl c.third_sum-2.ensures) (third_at c.args.block.now 336 84 refl c.third_sum-3.ensures) c.wrapping_add_u32-middle.ensures.value c.wrapping_add_u32-high.ensures.value c.wrapping_add_u32-first.ensures.value).0 (firsts (word_of c.args.block.now) (third_at c.args.block.now 0 0 refl c.third_sum.ensures) (third_at c.args.block.now 168 42 refl c.third_sum-2.ensures) (third_at c.args.block.now 336 84 refl c.third_sum-3.ensures) c.wrapping_add_u32-middle.ensures.value c.wrapping_add_u32-high.ensures.value c.wrapping_add_u32-first.ensures.value).1.0 c.wrapping_add_u32-two.ensures.value c.wrapping_add_u32.ensures.value c.for_a_third-before.ensures (together_sum c.args.block.now c.thirds_together.ensures c.second_sum-inside.ensures) c.wrapping_add_u32-2.ensures.value)
+returns c =
+    let bytes = c.args.block.now in
+    let f = firsts (word_of bytes) (third_at bytes 0 0 refl c.third_sum.ensures) (third_at bytes 168 42 refl c.third_sum-2.ensures) (third_at bytes 336 84 refl c.third_sum-3.ensures) refl refl refl in
+    (f.1.1, seconds (word_of bytes) f.0 f.1.0 refl refl refl (together_sum bytes c.thirds_together.ensures c.second_sum-inside.ensures) refl)

@@ -1,12 +1,9 @@
-use Rattle.std.proofs.Common.{rules}
-use Rattle.words.proofs.Zeroes.{zeros_start, zeros_more, zeros_ends}
+use Rattle.std.proofs.Common.{arith, rules, ap, ◌∙◌, ℕ}
+use lib.ListN.{replicate}
+use Rattle.std.proofs.Math.ListN.{length-replicate}
+use Rattle.words.proofs.Splices.{length-part, placed}
 use Rattle.words.proofs.zeros.put_zeros.Goals as goal
 
-pub loop-k-preserved : goal.loop-k-preserved
-loop-k-preserved c = (search rules, zeros_more _ _ _ _ _ (search rules) c.loop-k.invariant.1 c.put_u8.ensures)
-
 pub returns : goal.returns
-returns c = zeros_ends _ _ _ _ _ c.loop-k.invariant.1 c.loop-k.invariant.0 c.loop-k-test.false
-
-pub loop-k-init : goal.loop-k-init
-loop-k-init c = (search rules, zeros_start _ _)
+returns c =
+    placed _ _ (c.fill.ensures.after (λ y h. search rules) ∙ ap (λ (m : ℕ). replicate m 0) (length-part _ _ _ (omega arith) c.requires)) (length-replicate c.args.n 0) (omega arith) c.requires

@@ -1,15 +1,10 @@
-use Rattle.std.proofs.Common.{rules}
-use Rattle.words.proofs.Zeroes.{zero_start, zero_more, zero_left, zero_ends}
+use Rattle.std.proofs.Common.{rules, eqb, ◌∙◌, arith}
+use Rattle.below.proofs.Runs.{all_in}
+use Rattle.words.proofs.Splices.{length-part}
+use Rattle.words.proofs.Zeroes.{zero_part}
 use Rattle.words.proofs.zeros.zero_bytes.Goals as goal
 
-pub loop-k-preserved : goal.loop-k-preserved
-loop-k-preserved c = (search rules, zero_more _ _ _ c.loop-k.invariant.1 c.if-bytes-at-ne0.false)
-
 pub returns : goal.returns
-returns c = zero_ends _ (λ m. m) _ _ _ c.loop-k.invariant.1 (search rules) (search rules)
-
-pub loop-k-init : goal.loop-k-init
-loop-k-init c = (search rules, zero_start _ _)
-
-pub returns-then-bytes-at-ne0 : goal.returns-then-bytes-at-ne0
-returns-then-bytes-at-ne0 c = zero_left _ _ _ _ (search rules) c.if-bytes-at-ne0.true
+returns c =
+    all_in _ c.args.n (λ b. eqb b 0) 0 c.all.ensures.ran c.iter.ensures.rest (length-part _ _ _ (omega arith) c.requires) (λ x b q k. search rules) ∙
+    zero_part _ _ _ (omega arith) c.requires

@@ -1,15 +1,9 @@
-use Rattle.std.proofs.Common.{rules, refl}
-use Rattle.pages.specs.Pages.{at, append_of}
-use Rattle.pages.proofs.Filled.{built_start, built_more, built_ends}
+use Rattle.std.proofs.Common.{rules, cond, eqb}
+use Rattle.below.proofs.Runs.{row_made}
+use Rattle.pages.specs.Lines.{append_mark}
+use Rattle.pages.specs.Pages.{at, page, append_of, line}
 use Rattle.pages.proofs.page.Page.append.Goals as goal
 
-pub loop-k-preserved : goal.loop-k-preserved
-unfolding at
-loop-k-preserved c = (search rules, (search rules, built_more _ _ _ _ _ c.loop-k.invariant.1.1 c.append_if.ensures (search rules)))
-
 pub returns : goal.returns
-unfolding append_of
-returns c = built_ends _ _ _ _ c.loop-k.invariant.1.1 c.loop-k.invariant.1.0 (search rules) (search rules)
-
-pub loop-k-init : goal.loop-k-init
-loop-k-init c = (search rules, (refl, built_start _ _))
+unfolding at page append_of
+returns c = λ i. record { lines = row_made _ (λ k. line (cond (eqb k c.args.rack) (append_mark (at c.args.self k) c.args.line.mark) (at c.args.self k))) 8 c.from_fn.ensures.items (λ k y q h. search rules) i }

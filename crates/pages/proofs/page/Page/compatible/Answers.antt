@@ -1,19 +1,11 @@
-use Rattle.std.proofs.Common.{rules, ap, not}
-use Rattle.below.proofs.Tests.{all_start, all_more, all_left, all_ends}
-use Rattle.pages.specs.Pages.{at, compatible_of}
+use Rattle.std.proofs.Common.{rules}
+use Rattle.below.proofs.Runs.{all_zipped}
+use Rattle.pages.specs.declared.line.Mark.TheVariants.{Absent}
+use Rattle.pages.specs.Lines.{compatible_mark}
+use Rattle.pages.specs.Pages.{at, compatible_of, line}
+use Rattle.pages.proofs.Filled.{length_mapped}
 use Rattle.pages.proofs.page.Page.compatible.Goals as goal
 
-pub returns-then-not-compatible : goal.returns-then-not-compatible
-unfolding at compatible_of
-returns-then-not-compatible c = all_left _ _ c.loop-k-test.true c.compatible.ensures (ap not c.if-not-compatible.true)
-
-pub loop-k-preserved : goal.loop-k-preserved
-unfolding at
-loop-k-preserved c = (search rules, all_more _ c.loop-k.invariant.1 c.compatible.ensures (ap not c.if-not-compatible.false))
-
 pub returns : goal.returns
-unfolding compatible_of
-returns c = all_ends _ _ c.loop-k.invariant.1 (search rules) (search rules)
-
-pub loop-k-init : goal.loop-k-init
-loop-k-init c = (search rules, all_start _)
+unfolding at compatible_of
+returns c = all_zipped c.all.new.self 8 (λ l m. compatible_mark l.mark m.mark) (line Absent) (line Absent) c.all.ensures.ran (cc) (cc) (search length_mapped) (search length_mapped) (λ x b q k. search rules)

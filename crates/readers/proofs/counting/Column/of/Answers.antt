@@ -1,15 +1,10 @@
-use Rattle.std.proofs.Common.{rules, refl, ◌∙◌}
-use Rattle.below.proofs.Rows.{filled_ends}
-use Rattle.pages.proofs.Filled.{built_start, built_more}
+use Rattle.std.proofs.Common.{rules}
+use Rattle.below.proofs.Runs.{row_made}
+use Rattle.pages.specs.Pages.{line}
+use Rattle.rounds.specs.Setups.{most_boxes}
 use Rattle.readers.specs.Counting.{page_line}
 use Rattle.readers.proofs.counting.Column.of.Goals as goal
 
-pub loop-b-preserved : goal.loop-b-preserved
-unfolding page_line
-loop-b-preserved c = (search rules, (search rules, built_more _ _ _ _ _ c.loop-b.invariant.1.1 c.at.ensures (search rules)))
-
 pub returns : goal.returns
-returns c = (c.loop-b.invariant.1.1) ∙ filled_ends _ _ _ _ c.loop-b.invariant.1.0 c.loop-b.invariant.0 c.loop-b-test.false
-
-pub loop-b-init : goal.loop-b-init
-loop-b-init c = (search rules, (refl, built_start _ _))
+unfolding page_line
+returns c = row_made _ (λ b. line (page_line c.args.held c.args.rack b)) most_boxes c.from_fn.ensures.items (λ b y q h. search rules)

@@ -1,20 +1,10 @@
-use Rattle.std.proofs.Common.{rules, ap, not}
-use Rattle.below.proofs.Tests.{all_start, all_more, all_left, all_ends}
-use Rattle.records.specs.Slots.{blank_at}
-use Rattle.records.specs.Rules.{all_blanks}
+use Rattle.std.proofs.Common.{rules}
+use Rattle.below.proofs.Runs.{all_counted}
+use Rattle.pages.proofs.Filled.{length_mapped}
+use Rattle.records.specs.Slots.{no_blank, blank_at}
+use Rattle.records.specs.Rules.{blank_rules, all_blanks}
 use Rattle.records.proofs.rows.ReaderRow.blank_rules.Goals as goal
 
-pub returns-then-not-rules : goal.returns-then-not-rules
-unfolding blank_at all_blanks
-returns-then-not-rules c = all_left _ _ c.loop-k-test.true c.rules.ensures (ap not c.if-not-rules.true)
-
-pub loop-k-preserved : goal.loop-k-preserved
-unfolding blank_at
-loop-k-preserved c = (search rules, all_more _ c.loop-k.invariant.1 c.rules.ensures (ap not c.if-not-rules.false))
-
 pub returns : goal.returns
-unfolding all_blanks
-returns c = all_ends _ _ c.loop-k.invariant.1 (search rules) (search rules)
-
-pub loop-k-init : goal.loop-k-init
-loop-k-init c = (search rules, all_start _)
+unfolding blank_at all_blanks
+returns c = all_counted _ 8 (λ k h. blank_rules c.args.setup k h) no_blank c.all.ensures.ran (cc) (cc) (search length_mapped) (λ x b q k. search rules)

@@ -1,20 +1,10 @@
-use Rattle.std.proofs.Common.{rules, ap, not}
-use Rattle.below.proofs.Tests.{all_start, all_more, all_left, all_ends}
-use Rattle.records.specs.Slots.{held_at}
-use Rattle.records.specs.Rules.{all_held}
+use Rattle.std.proofs.Common.{rules, false, []}
+use Rattle.below.proofs.Runs.{all_counted}
+use Rattle.pages.proofs.Filled.{length_mapped}
+use Rattle.records.specs.Slots.{no_round, held_at}
+use Rattle.records.specs.Rules.{held_rules, all_held}
 use Rattle.records.proofs.rows.ReaderRow.held_rules.Goals as goal
 
-pub returns-then-not-rules : goal.returns-then-not-rules
-unfolding held_at all_held
-returns-then-not-rules c = all_left _ _ c.loop-k-test.true c.rules.ensures (ap not c.if-not-rules.true)
-
-pub loop-k-preserved : goal.loop-k-preserved
-unfolding held_at
-loop-k-preserved c = (search rules, all_more _ c.loop-k.invariant.1 c.rules.ensures (ap not c.if-not-rules.false))
-
 pub returns : goal.returns
-unfolding all_held
-returns c = all_ends _ _ c.loop-k.invariant.1 (search rules) (search rules)
-
-pub loop-k-init : goal.loop-k-init
-loop-k-init c = (search rules, all_start _)
+unfolding held_at all_held
+returns c = all_counted _ 5 (λ k h. held_rules c.args.setup k h) (record { filled = false; round = no_round; page = record { lines = [] } }) c.all.ensures.ran (cc) (cc) (search length_mapped) (λ x b q k. search rules)

@@ -1,4 +1,0 @@
-use Rattle.boxes.proofs.steps.join_refusal.Goals as goal
-
-pub returns : goal.returns
-returns c = simp (c.unless.ensures, c.is_above.ensures, c.compare.ensures)

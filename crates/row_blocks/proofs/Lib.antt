@@ -1,3 +1,0 @@
-pub mod Propers
-pub mod Theorems
-pub mod Unique

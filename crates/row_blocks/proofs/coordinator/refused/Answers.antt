@@ -1,7 +1,0 @@
-use Rattle.std.proofs.Common.{refl}
-use Rattle.below.specs.Below.{row}
-use Rattle.row_blocks.proofs.coordinator.refused.Goals as goal
-
-pub returns : goal.returns
-unfolding row
-returns c = (refl, refl)
