@@ -20,7 +20,8 @@ pub enum Code {
 }
 
 impl Code {
-    // The step with this number, any at all.
+    // The step with this number, any at all. Not `TryFrom`: that no step has it is 4 where a step is
+    // asked for, which the caller says.
     #[tactic(auto, unfolding(crate::specs::Codes::code_at))]
     pub fn of(number: u32) -> Option<Code>
         ensures { result ≡ code_at number }

@@ -1,5 +1,7 @@
 // The four shapes of an act, each over the kinds of its blocks: on a row alone or on a row and a
 // message, with a message sent or none. What the step itself makes of the records is the caller's.
+// Four and not one: a step on one block and a step on two are closures of different types, and one that
+// sends nothing has no buffer. The stamp is read before the step takes its block.
 ghost use Rattle.std.specs.Prelude.{◌≡◌, ◌≢◌, length};
 ghost use Rattle.below.specs.Refusals.{granted, number_of};
 ghost use Rattle.blocks.specs.Frame.{block_size};

@@ -19,7 +19,7 @@ pub enum Refusal {
 }
 
 impl Refusal {
-    // Document 01's number.
+    // Document 01's number. Not `From`: `.number()` says which number.
     pub fn number(self) -> u8
         ensures { result ≡ number self }
     {
@@ -46,7 +46,7 @@ impl Refusal {
     }
 }
 
-// Document 01's number of an answer: 0 where it is granted.
+// Document 01's number of an answer: 0 where it is granted. No `From`: Result and u32 are std's.
 pub fn number_of(answer: Result<(), Refusal>) -> u32
     ensures { result ≡ number_of answer }
 {

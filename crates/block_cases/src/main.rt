@@ -44,7 +44,8 @@ fn redo(block: &mut [u8]) {
 }
 
 impl Block {
-    // A block of this hall with this kind and agent, and no body yet.
+    // A block of this hall with this kind and agent, and no body yet. The kind is its byte, as the document
+    // writes it; some cases need a byte that no kind has.
     pub(crate) fn of(kind: u8, agent: u8) -> Block {
         let bytes = [0u8; BLOCK];
         let block = Block { bytes };

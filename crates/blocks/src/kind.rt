@@ -18,7 +18,7 @@ pub enum Kind {
 }
 
 impl Kind {
-    // Document 01's number.
+    // Document 01's number, by its table; the numbers leave a gap, so no cast of the variant's place gives it.
     pub fn number(self) -> u8
         ensures { result ≡ number self }
     {
@@ -37,7 +37,7 @@ impl Kind {
         }
     }
 
-    // The kind with a number, if there is one.
+    // The kind with a number, if there is one. Not `TryFrom`: which refusal that is, the caller says.
     pub fn of(byte: u8) -> Option<Kind>
         ensures { result ≡ named byte }
     {

@@ -27,5 +27,6 @@ pub fn book(blocks: &[u8], list: &mut [u32]) -> Result<u16, Refusal>
     let count = walk(blocks, blocks.len() / BLOCK, racks, &mut readings);
     Refusal::PostFull.unless(count <= list.len())?;
     list[..count].copy_from_slice(&readings[..count]);
+    // At most 512, so nothing is lost.
     Ok(count as u16)
 }

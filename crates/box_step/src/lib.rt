@@ -26,6 +26,7 @@ fn clear_unless(sends: bool, sent: &mut [u8])
     }
 }
 
+// The seven numbers come one by one, as C gives them.
 #[tactic(auto, using(step_numbers::proofs::Codes::code_none), unfolding(crate::specs::BoxSteps::box_refusal, crate::specs::BoxSteps::box_row_after, crate::specs::BoxSteps::box_sent_after))]
 pub fn step(
     row: &mut [u8],

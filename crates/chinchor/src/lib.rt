@@ -1,5 +1,5 @@
 // The C interface, declared and documented in include/chinchor.h: nothing but exported functions over
-// the others. In C each lent buffer is a pointer, then its length.
+// the others. In C each lent buffer is a pointer, then its length, and an answer is document 01's number.
 #![tactic(auto)]
 
 ghost use Rattle.rounds.specs.Setups.{setup_of};

@@ -8,6 +8,7 @@ use crate::array::{Slot, put_all, read_all};
 use crate::field::{Field, Read};
 use pages::{Line, Mark, Page, RACKS, Reading, Vote};
 
+// A line and its two parts in bytes, here and below: by hand, since what a byte means is document 01's.
 fn line_of(state: u8, value: Reading) -> Line
     ensures { result ≡ line_of state value }
 {

@@ -91,7 +91,8 @@ fn fresh_coordinator(setup: Setup, agent: u8) -> CoordinatorRow
     }
 }
 
-// The block at a place of a fresh hall; unused blocks are zero.
+// The block at a place of a fresh hall; unused blocks are zero. A place is below 118, so no cast loses
+// anything.
 #[tactic(auto, unfolding(crate::specs::Halls::fresh_block))]
 pub(crate) fn fresh_block(block: &mut [u8], instance: Instance, setup: Setup, place: usize)
     requires { length block.old ≡ block_size }

@@ -27,8 +27,8 @@ fn fill(hall: &mut [u8], instance: Instance, setup: Setup)
 }
 
 // Any lent bytes and any numbers: 1 for another length, 11 out of range, else all blocks are written. The
-// numbers come one by one, as C gives them. Both tests are worked out, `&`, so that what they say is
-// known in one piece where the numbers are narrowed.
+// numbers come one by one, as C gives them, and are cut once they are known to be in range. Both tests are
+// worked out, `&`, so that what they say is known in one piece where the numbers are cut.
 #[tactic(auto, unfolding(crate::specs::Halls::setup_refusal, crate::specs::Halls::setup_after))]
 pub fn setup(
     hall: &mut [u8],

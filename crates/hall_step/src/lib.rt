@@ -61,6 +61,7 @@ fn step_on_blocks(
     ensures { Steps hall.old hall.new step (number_of result) }
 {
     let rows = rows_of(stamp.setup, step.code);
+    // Within the rows, so no cast here loses anything; `usize` has no From of 32 bits.
     let place = rows.first + step.agent as usize;
     let at = place * BLOCK;
     let end = at + BLOCK;

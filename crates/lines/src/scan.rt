@@ -12,7 +12,7 @@ pub const LARGEST: u64 = 4294967295;
 // What has been read of a line: the numbers of the fields that a space has ended, and how many; the
 // open field's value, which stays where it is once it is too large, and whether it has a digit;
 // whether anything stood on the line that no seven decimals have. The specs speak of these fields, so
-// the numbers and their count stay two.
+// the numbers and their count stay two, and a digit's flag stands beside the value.
 #[derive(Clone, Copy)]
 pub struct Scan {
     pub numbers: [u32; FIELDS],
@@ -22,7 +22,8 @@ pub struct Scan {
     pub bad: bool,
 }
 
-// The scan after a part of a line, and the place where that ends.
+// The scan after a part of a line, and the place where that ends; a type of its own, as `Played` of the
+// rehearsal is, since the promises name the state that each has.
 #[derive(Clone, Copy)]
 pub struct Fed {
     pub scan: Scan,
@@ -66,6 +67,7 @@ impl Scan {
         ensures { result ≡ end_field self }
     {
         if self.field_reads() && self.ended < LAST {
+            // At most LARGEST, so nothing is lost.
             self.numbers[self.ended] = self.value as u32;
             self.ended += 1;
             self.value = 0;
@@ -117,6 +119,7 @@ impl Scan {
         ensures { result ≡ finish_of self }
     {
         if self.ended == LAST && self.field_reads() && !self.bad {
+            // At most LARGEST, as above.
             self.numbers[LAST] = self.value as u32;
             Some(self.numbers)
         } else {

@@ -21,6 +21,7 @@ fn put(out: &mut [u8], at: usize, text: &[u8]) -> usize
 }
 
 #[tactic(auto, using(crate::proofs::Writing::length_small, crate::proofs::Writing::length_more, crate::proofs::Writing::put_small, crate::proofs::Writing::put_more))]
+// By hand: it is promised what stands at a place of lent bytes, and there is no heap for a text.
 fn put_decimal(out: &mut [u8], at: usize, n: u32) -> usize
     requires { at + length (decimal n) ≤ length out.old }
     ensures { Put at (decimal n) out.old out.new result }

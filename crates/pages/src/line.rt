@@ -37,6 +37,7 @@ impl Line {
 
     pub const NIL: Line = Line { mark: Mark::Nil };
 
+    // By name, as the two above, and not `From`.
     pub fn of(reading: Reading) -> Line
         ensures { result.mark ≡ reads reading }
     {

@@ -72,7 +72,8 @@ impl Page {
         }
     }
 
-    // All lines of both, only if compatible.
+    // All lines of both, only if compatible. A stored vote is the answer, not an Option: `join_of` is one,
+    // and its laws speak of it.
     #[tactic(auto, unfolding(crate::specs::Pages::join_of, crate::specs::Pages::empty, crate::specs::Pages::page, below::specs::Below::row))]
     pub fn join(self, other: Page) -> Vote
         ensures { result ≡ join_of self other }

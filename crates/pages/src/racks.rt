@@ -32,6 +32,7 @@ pub fn outside(cf: u8, racks: u8) -> u8
     ensures { result ≡ set_of most_racks (outside cf racks) }
 {
     let mut set: u8 = 0;
+    // From the highest rack down: a turn moves the set up by one.
     for rack in (0..RACKS).rev() {
         set = below_all(set, is_outside(cf, racks, rack));
     }

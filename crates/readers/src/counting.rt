@@ -42,7 +42,8 @@ fn is_held(setup: Setup, row: ReaderRow, round: Round, place: usize) -> bool
             .is_some_and(|slot| slot.filled && slot.round == round)
 }
 
-// Whether a rack is of cf and held blank at exactly this round.
+// Whether a rack is of cf and held blank at exactly this round. Not one with the above: another slot, and
+// another test of the place.
 #[tactic(auto, unfolding(records::specs::Slots::blank_at))]
 fn is_blank(row: ReaderRow, round: Round, rack: usize) -> bool
     ensures { result ≡ blank_in row round rack }
@@ -54,7 +55,8 @@ fn is_blank(row: ReaderRow, round: Round, rack: usize) -> bool
             .is_some_and(|slot| slot.filled && slot.round == round)
 }
 
-// The racks of cf held blank at exactly the round, as bits, so from the highest rack down.
+// The racks of cf held blank at exactly the round, as bits, so from the highest rack down. The loop is
+// `pages::outside`'s with another test: two lines, and a closure for it would say more than they do.
 #[tactic(auto, using(pages::proofs::Sets::set_start, crate::proofs::Ways::set_turn, pages::proofs::Sets::set_ends))]
 fn blank_racks(row: ReaderRow, round: Round) -> u8
     ensures { result ≡ set_of most_racks (blank_in row round) }

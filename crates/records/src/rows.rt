@@ -101,6 +101,8 @@ impl RackRow {
 }
 
 impl ReaderRow {
+    // Boxes and racks each by the rules of their own slot, here and below: one function for both would be
+    // longer.
     fn held_rules(self, setup: Setup) -> bool
         ensures { result ≡ all_held setup self }
     {

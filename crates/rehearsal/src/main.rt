@@ -17,22 +17,10 @@ const PIECE: usize = 32768;
 
 const ROOM: usize = 720896;
 
-fn hall_bytes() -> [u8; HALL]
-    ensures { 60416 ≡ length result }
+fn zeros<const N: usize>() -> [u8; N]
+    ensures { N ≡ length result }
 {
-    [0; HALL]
-}
-
-fn piece_bytes() -> [u8; PIECE]
-    ensures { 32768 ≡ length result }
-{
-    [0; PIECE]
-}
-
-fn room_bytes() -> [u8; ROOM]
-    ensures { 720896 ≡ length result }
-{
-    [0; ROOM]
+    [0; N]
 }
 
 // Takes one piece and prints what it gives; whether more are wanted: none at the end of the input, nor
@@ -94,8 +82,8 @@ fn rehearse<R: Read>(
 }
 
 fn main(rt: HostRuntime) -> io::Result<()> {
-    let mut hall = hall_bytes();
-    let mut input = piece_bytes();
-    let mut out = room_bytes();
+    let mut hall = zeros::<HALL>();
+    let mut input = zeros::<PIECE>();
+    let mut out = zeros::<ROOM>();
     rehearse(&rt, &mut rt.reader(), &mut hall, &mut input, &mut out)
 }

@@ -23,12 +23,14 @@ fn page_of(hall: &[u8], reader: u32) -> Page
     requires { (length hall.now ≡ hall_size) × (reader < 4) }
     ensures { result ≡ page_of hall.now reader }
 {
+    // `usize` has no From of 32 bits.
     let from = (READERS_AT + reader as usize) * BLOCK;
     let to = from + BLOCK;
     Page::read(&hall[from..to], PAGE).value
 }
 
-// Readers and racks are counted, here and below, since their numbers are printed.
+// Readers and racks are counted, here and below, since their numbers are printed; `usize` has no From of
+// 32 bits.
 fn put_page(page: Page, reader: u32, racks: u32, out: &mut [u8], at: usize) -> usize
     requires { at + page_line_room * racks ≤ length out.old }
     ensures { Put at (run racks (λ rack. page_line_text reader rack (mark_at page rack))) out.old out.new result }

@@ -13,7 +13,8 @@ pub enum Stage {
     Over,
 }
 
-// How far the rehearsal is, what has been read of the open line, and whether any byte of it has.
+// How far the rehearsal is, what has been read of the open line, and whether any byte of it has. The flag
+// stays beside the scan: what a piece of input makes is promised of any of them.
 #[derive(Clone, Copy)]
 pub struct Rehearsal {
     pub stage: Stage,

@@ -55,7 +55,8 @@ impl Round {
         )
     }
 
-    // How this round stands to the other.
+    // How this round stands to the other. Not `PartialOrd`: its None would say less than a clash, which a
+    // step answers with 6.
     #[tactic(auto, unfolding(crate::specs::Rounds::order_of))]
     pub fn compare(self, other: Round) -> Order
         ensures { result ≡ order_of self other }

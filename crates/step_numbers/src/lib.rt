@@ -17,6 +17,7 @@ use hall::{BOXES_AT, COORDINATORS_AT, MESSAGES_AT, RACKS_AT, READERS_AT};
 use pages::Reading;
 use rounds::{Number, Round, Setup, some_racks};
 
+// A code is a number here, any at all, as C gives it; the step that it names is `acts::Code`.
 const LAST_CODE: u32 = 13;
 
 // Where the rows of the agents that do a step begin, and how many there are.
@@ -26,6 +27,7 @@ pub struct Rows {
     pub agents: u8,
 }
 
+// By ranges of codes, as document 01 has its ranges for rows.
 pub fn rows_of(setup: Setup, code: u32) -> Rows
     ensures { (result.first ≡ rows_at code) × (result.agents ≡ agents_for setup code) }
 {
@@ -63,6 +65,7 @@ fn names(code: u32) -> bool
 }
 
 // The block of the message that a step names; of a step that names none, any block of the post.
+// `usize` has no From of 32 bits.
 pub fn message_place(code: u32, message: u32) -> usize
     ensures { result ≡ cond (names code) (messages_at + message) messages_at }
 {
@@ -88,6 +91,7 @@ fn start_in_range(setup: Setup, n: u32, cf: u32) -> bool
     0 < n && n <= u32::from(Number::LARGEST) && some_racks(u32::from(setup.racks), cf)
 }
 
+// By the code's number, since a code that no step has names no number.
 #[tactic(auto, unfolding(hall::specs::Steps::numbers_in_range))]
 pub fn numbers_in_range(setup: Setup, step: Step) -> bool
     ensures { result ≡ numbers_in_range setup step }
@@ -100,7 +104,8 @@ pub fn numbers_in_range(setup: Setup, step: Step) -> bool
     }
 }
 
-// The numbers as an act takes them: those in range are kept, the others are never looked at.
+// The numbers as an act takes them: those in range are kept, the others are never looked at, so they are
+// cut and not tried.
 pub fn narrow(step: Step) -> Numbers
     ensures { result ≡ narrowed step }
 {

@@ -2,6 +2,8 @@
 ghost use Rattle.std.specs.Prelude.{◌≡◌, ◌+◌, ◌<◌, ◌≤◌, [], ◌∷◌, length};
 ghost use Rattle.words.specs.Bytes.{number2, number4, bytes2, bytes4, Spliced};
 
+// One function for each size, here and below: `from_le_bytes` belongs to each number's own type, so a
+// trait would need an impl for each and say no less.
 pub fn get_u16(bytes: &[u8], at: usize) -> u16
     requires { at + 2 ≤ length bytes.now }
     ensures { result ≡ number2 bytes.now at }

@@ -19,6 +19,7 @@ pub fn zero_words(bytes: &[u8], at: usize, n: usize) -> bool
     ensures { result ≡ zero_at (4 * n) bytes.now at }
 {
     let mut total: u64 = 0;
+    // By number: a word's place is computed from it.
     for k in 0..n {
         total += u64::from(get_u32(bytes, at + 4 * k));
     }
