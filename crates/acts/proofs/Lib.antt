@@ -3,4 +3,5 @@ pub mod Read
 pub mod Ways
 pub mod Answered
 pub mod Coded
+pub mod Late
 pub mod Unique

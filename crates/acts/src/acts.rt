@@ -18,7 +18,7 @@ use records::{
 };
 
 // Whether a message is sent. The caller has looked at the numbers' range: what it found is `late`.
-pub fn act(
+pub fn perform(
     code: Code,
     numbers: Numbers,
     hall: Stamp,

@@ -27,4 +27,3 @@ module _ {A : Type 0} where
       go : (b : Bool) → eqb number granted ≡ b → number_of (cond b done kept) ≡ number
       go true e = p ∙ sym (eqb-true number granted e)
       go false e = q
-      -- the ways through a step: `number` is what the code found, `right` what the definition says

@@ -72,11 +72,13 @@ pub fn read<B: Body>(block: &[u8]) -> Result<Stamped<B>, Refusal>
     Refusal::BadBlock.unless(block[2] == B::KIND.number())?;
     let stamp = read_stamp(block);
     let read = B::read(block);
-    let body = read.value;
-    let rules = stamp.rules(B::agents(stamp.setup)) & body.keeps(stamp.setup, stamp.agent);
+    let rules = stamp.rules(B::agents(stamp.setup)) & read.value.keeps(stamp.setup, stamp.agent);
     Refusal::BadBlock.unless(read.exact & rules)?;
     Refusal::BadBlock.unless(framed(block, B::KIND.number(), B::END))?;
-    Ok(Stamped { stamp, body })
+    Ok(Stamped {
+        stamp,
+        body: read.value,
+    })
 }
 
 // The writer where length and rules are known to be right: a granted step's row and message keep the

@@ -1,4 +1,4 @@
--- The refusals before the list: the loop over all blocks, the ways through the code, and what blocks are that are not refused.
+-- The refusals before the list: the loop over all blocks, and what blocks are that are not refused.
 use Rattle.std.proofs.Common.{ℕ, ◌+◌, ◌%◌, ◌≤◌, ◌<◌, arith, eqb, leb, length, eqb-true, leb-true, ◌≡◌, refl, subst, Bool, true, false, ◌&&◌, List}
 use Rattle.std.proofs.Math.Decide.{ℕ_discrete}
 use Rattle.below.specs.Below.{all}

@@ -1,4 +1,4 @@
--- The walk's code: the line that it reads, one more entry, and the list copied to the lent row.
+-- The walk's code: the line that it reads, the loop that looks for a number, and one more entry.
 use Rattle.std.proofs.Common.{ℕ, ◌+◌, ◌*◌, ◌≤◌, ◌<◌, le_antisymm, add-one, arith, length, take, set, take-suc-set, ◌≡◌, refl, sym, ap, subst, ◌∙◌, Bool, true, false, ◌||◌, List}
 use Rattle.below.specs.Below.{any}
 use Rattle.below.proofs.Tests.{pick_yes, pick_no}

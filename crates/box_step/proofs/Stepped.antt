@@ -1,4 +1,4 @@
--- The C step, by the ways through its code.
+-- The C step, from what its act answers.
 use Rattle.std.proofs.Common.{ℕ, arith, eqb, eqb-true, ◌≡◌, refl, sym, ap, subst, ◌∙◌, Bool, true, false, cond, ◌&&◌, Some, Result, Ok, Err, List}
 use borrow.Author.Tests.{eqb-false}
 use Rattle.std.proofs.Math.Bool.{false≢true}

@@ -11,7 +11,7 @@ ghost use Rattle.words.specs.Bytes.{zeros};
 ghost use Rattle.blocks.specs.Frame.{block_size};
 ghost use Rattle.box_step.specs.BoxSteps.{BoxSteps};
 
-use acts::{Code, Step, act};
+use acts::{Code, Step, perform};
 use below::Refusal;
 use blocks::{BLOCK, read_stamp};
 use step_numbers::{narrow, numbers_in_range};
@@ -57,7 +57,7 @@ pub fn step(
     let own = read_stamp(row);
     let late = Refusal::OutOfRange.unless(numbers_in_range(own.setup, step));
     let mut after = [0u8; BLOCK];
-    let sends = act(
+    let sends = perform(
         code,
         narrow(step),
         own,

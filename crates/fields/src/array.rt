@@ -15,6 +15,7 @@ pub trait Slot: Field {
     ghost long: { (v : Self) → length (Self.codec.put v) ≡ Self.codec.size };
 }
 
+#[inline(always)]
 pub fn read_all<T: Slot, const N: usize>(bytes: &[u8], at: usize) -> Read<[T; N]>
     requires { at + T.SIZE * N ≤ length bytes.now }
     ensures { Got (times N T.past T.codec) bytes.now at result.value result.exact }

@@ -57,6 +57,7 @@ impl Field for Line {
 
     const SIZE: usize = 1 + Reading::SIZE;
 
+    #[inline(always)]
     fn read(bytes: &[u8], at: usize) -> Read<Line> {
         let state = bytes[at];
         let reading = Reading::read(bytes, at + 1).value;
@@ -89,6 +90,7 @@ impl Field for Page {
 
     const SIZE: usize = RACKS * Line::SIZE;
 
+    #[inline(always)]
     fn read(bytes: &[u8], at: usize) -> Read<Page> {
         let read = read_all::<Line, RACKS>(bytes, at);
         let lines = read.value;
@@ -112,6 +114,7 @@ impl Field for Vote {
 
     const SIZE: usize = bool::SIZE + Page::SIZE;
 
+    #[inline(always)]
     fn read(bytes: &[u8], at: usize) -> Read<Vote> {
         let some = bool::read(bytes, at);
         let page = Page::read(bytes, at + bool::SIZE);

@@ -179,7 +179,7 @@ pub unless_failed : (b : Bool) (e f : Refusal) {r : Result (Unit {0}) Refusal} �
 unless_failed true e f p q = cc
 unless_failed false e f p q = (refl, cc)
 
--- a message that is sent finds room, and where it goes
+-- where a message that is sent goes
 pub posted_is : (hall sent mid new : List ℕ) (stamp : Stamp) (count : ℕ) → length hall ≡ hall_size → length sent ≡ block_size → count < most_messages → stamp ≡ head_of hall → count ≡ count_of hall →
     mid ≡ put_block (messages_at + count) sent hall → new ≡ encode head stamp (record { count = count + 1 }) → put_mid 0 block_size mid new ≡ posted sent hall
 unfolding posted

@@ -13,7 +13,7 @@ ghost use Rattle.hall.specs.Halls.{blocks_of_hall, hall_size};
 ghost use Rattle.hall.specs.Steps.{head_of, count_of, most_messages, fits, put_block, posted, Steps};
 ghost use Rattle.hall_step.specs.Reached.{Reached};
 
-use acts::{Code, Step, act};
+use acts::{Code, Step, perform};
 use below::Refusal;
 use blocks::{BLOCK, put, read};
 use hall::{HALL, MESSAGES_AT};
@@ -73,7 +73,7 @@ fn step_on_blocks(
     };
     let mut row = [0u8; BLOCK];
     let mut sent = [0u8; BLOCK];
-    let sends = act(
+    let sends = perform(
         code,
         narrow(step),
         own,

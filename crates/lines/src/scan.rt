@@ -39,14 +39,13 @@ impl Scan {
         bad: false,
     };
 
-    fn with_digit(mut self, digit: u8) -> Scan
-        ensures { result ≡ with_digit self digit }
+    fn add_digit(&mut self, digit: u8)
+        ensures { self.new ≡ with_digit self.old digit }
     {
         if self.value <= LARGEST {
             self.value = 10 * self.value + u64::from(digit);
         }
         self.digits = true;
-        self
     }
 
     fn field_reads(self) -> bool
@@ -55,16 +54,15 @@ impl Scan {
         self.digits && self.value <= LARGEST
     }
 
-    fn spoil(mut self) -> Scan
-        ensures { result ≡ spoiled self }
+    fn spoil(&mut self)
+        ensures { self.new ≡ spoiled self.old }
     {
         self.bad = true;
-        self
     }
 
     #[tactic(auto, unfolding(crate::specs::Scans::end_field))]
-    fn end_field(mut self) -> Scan
-        ensures { result ≡ end_field self }
+    fn end_field(&mut self)
+        ensures { self.new ≡ end_field self.old }
     {
         if self.field_reads() && self.ended < LAST {
             // At most LARGEST, so nothing is lost.
@@ -72,22 +70,29 @@ impl Scan {
             self.ended += 1;
             self.value = 0;
             self.digits = false;
-            self
         } else {
-            self.spoil()
+            self.spoil();
+        }
+    }
+
+    // The next byte of the line, in place: a scan by value would be copied for each byte.
+    #[tactic(auto, unfolding(crate::specs::Scans::feed_of))]
+    fn take(&mut self, byte: u8)
+        ensures { self.new ≡ feed_of self.old byte }
+    {
+        match byte {
+            b' ' => self.end_field(),
+            b'0'..=b'9' => self.add_digit(byte - b'0'),
+            _ => self.spoil(),
         }
     }
 
     // The next byte of the line.
-    #[tactic(auto, unfolding(crate::specs::Scans::feed_of))]
-    pub fn feed(self, byte: u8) -> Scan
+    pub fn feed(mut self, byte: u8) -> Scan
         ensures { result ≡ feed_of self byte }
     {
-        match byte {
-            b' ' => self.end_field(),
-            b'0'..=b'9' => self.with_digit(byte - b'0'),
-            _ => self.spoil(),
-        }
+        self.take(byte);
+        self
     }
 
     // The open line from a place of a piece of input on, up to its LF or the piece's end.
@@ -105,7 +110,7 @@ impl Scan {
                     to: from + read,
                 };
             }
-            scan = scan.feed(byte);
+            scan.take(byte);
         }
         Fed {
             scan,

@@ -106,7 +106,7 @@ line_nil_if_unique κs a x y s t p q = p ∙ sym q
 pub line_within_if_unique : Determines 0 line_within_if_kinds.ps line_within_if_kinds.r line_within_if.Post
 line_within_if_unique κs a x y s t p q = p ∙ sym q
 
-pub page_at_unique : Determines 0 page_at_kinds.ps page_at_kinds.r page_at.Post
+pub page_at_unique : Determines 1 page_at_kinds.ps page_at_kinds.r page_at.Post
 page_at_unique κs a x y s t p q = λ i. record { mark = (p ∙ sym q) i }
 
 pub page_append_unique : Determines 0 page_append_kinds.ps page_append_kinds.r page_append.Post

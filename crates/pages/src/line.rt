@@ -134,6 +134,10 @@ impl Line {
     pub fn within_if(self, member: bool) -> bool
         ensures { result ≡ (member || is_absent self.mark) && mark_in_range self.mark }
     {
-        (member || self.is_absent()) && self.in_range()
+        if member {
+            self.in_range()
+        } else {
+            self.is_absent()
+        }
     }
 }

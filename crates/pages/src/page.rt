@@ -27,8 +27,8 @@ impl Page {
 
     // The line of a rack, absent where there is no such rack.
     #[tactic(auto, using(crate::proofs::Filled::past_lines, crate::proofs::Filled::length_mapped), unfolding(crate::specs::Pages::at))]
-    pub fn at(self, rack: usize) -> Line
-        ensures { result.mark ≡ at self rack }
+    pub fn at(&self, rack: usize) -> Line
+        ensures { result.mark ≡ at self.now rack }
     {
         if rack < RACKS {
             self.lines[rack]
@@ -128,6 +128,7 @@ impl Page {
     }
 
     // Lines of racks that the hall has not are absent, and readings are in range.
+    #[inline(always)]
     pub fn within(self, racks: u8) -> bool
         ensures { result ≡ within_of (racks_below racks) self }
     {

@@ -1,6 +1,6 @@
 -- Learn by counting: what the code computes. That it is what document 01 says of majorities stands in proofs/.
-use Rattle.std.specs.Prelude.{ℕ, zero, suc, leb, get_or, Bool, cond, not, ◌&&◌, []}
-use Rattle.below.specs.Below.{any, count, row}
+use Rattle.std.specs.Prelude.{ℕ, zero, suc, leb, get_or, Bool, cond, not, ◌&&◌}
+use Rattle.below.specs.Below.{any, count}
 use Rattle.below.specs.Refusals.{granted, no_majority, lines_clash}
 use Rattle.pages.specs.declared.line.Mark.{Mark}
 use Rattle.pages.specs.declared.line.Mark.TheVariants.{Absent}
@@ -14,7 +14,6 @@ use Rattle.rounds.specs.Setups.{most_boxes, majority_of}
 use Rattle.records.specs.Slots.{held_at}
 use Rattle.records.specs.declared.rows.ReaderRow.{ReaderRow}
 use Rattle.records.specs.Answers.{Noted}
-use Rattle.readers.specs.declared.counting.HeldPages.{HeldPages}
 use Rattle.readers.specs.declared.counting.Column.{Column}
 use Rattle.readers.specs.Learning.{held_in, blank_in, with_page}
 use Rattle.readers.specs.Notes.{refused}
@@ -40,13 +39,9 @@ agreed_line n need lines = first_line n (enough n need lines) lines
 unfoldable pub held_page : Setup → ReaderRow → Round → (ℕ → Bool) → ℕ → Page
 held_page s r round blanks box = cond (held_in s r round box) (nil_extension blanks (held_at r box).page) empty
 
--- how many boxes are held, and those pages
-unfoldable pub held_pages : Setup → ReaderRow → Round → (ℕ → Bool) → HeldPages
-held_pages s r round blanks = record { boxes = count most_boxes (held_in s r round); pages = row most_boxes (held_page s r round blanks) }
-
--- the lines that they have for a rack
-unfoldable pub page_line : HeldPages → ℕ → ℕ → Mark
-page_line held rack b = at (get_or held.pages b (record { lines = [] })) rack
+-- the line that they have for a rack, by box
+unfoldable pub held_line : Setup → ReaderRow → Round → (ℕ → Bool) → ℕ → ℕ → Mark
+held_line s r round blanks rack box = at (held_page s r round blanks box) rack
 
 unfoldable pub line_at : Column → ℕ → Mark
 line_at column b = (get_or column.lines b (line Absent)).mark

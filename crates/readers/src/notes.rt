@@ -35,20 +35,26 @@ pub fn note_vote(row: ReaderRow, place: u8, message: TwoB) -> Result<ReaderRow, 
     ensures { noted_of row result ≡ note_vote_of row place message }
 {
     let place = usize::from(place);
-    let mut after = row;
-    if place < BOXES {
-        let held = row.held[place];
-        if held.filled {
-            let order = held.round.compare(message.round);
-            by_order(order, extends(held.page, message.page))?;
-        }
-        // By index: nothing is known of a row after `get_mut` lent a slot of it.
-        after.held[place] = Held {
-            filled: true,
-            round: message.round,
-            page: message.page,
-        };
+    if place >= BOXES {
+        return Ok(row);
     }
+    let held = &row.held[place];
+    if held.filled {
+        let order = held.round.compare(message.round);
+        let same = if order.is_equal() {
+            extends(held.page, message.page)
+        } else {
+            Ok(())
+        };
+        by_order(order, same)?;
+    }
+    let mut after = row;
+    // By index: nothing is known of a row after `get_mut` lent a slot of it.
+    after.held[place] = Held {
+        filled: true,
+        round: message.round,
+        page: message.page,
+    };
     Ok(after)
 }
 
@@ -59,19 +65,20 @@ pub fn note_blank(row: ReaderRow, rack: u8, message: TwoA) -> Result<ReaderRow, 
     ensures { noted_of row result ≡ note_blank_of row rack message }
 {
     let rack = usize::from(rack);
-    let mut after = row;
     Refusal::WrongMessage.unless(message.line.is_nil())?;
-    if rack < RACKS {
-        let blank = row.blanks[rack];
-        if blank.filled {
-            let order = blank.round.compare(message.round);
-            by_order(order, Err(Refusal::AlreadyDone))?;
-        }
-        // By index, as in note vote.
-        after.blanks[rack] = Blank {
-            filled: true,
-            round: message.round,
-        };
+    if rack >= RACKS {
+        return Ok(row);
     }
+    let blank = &row.blanks[rack];
+    if blank.filled {
+        let order = blank.round.compare(message.round);
+        by_order(order, Err(Refusal::AlreadyDone))?;
+    }
+    let mut after = row;
+    // By index, as in note vote.
+    after.blanks[rack] = Blank {
+        filled: true,
+        round: message.round,
+    };
     Ok(after)
 }

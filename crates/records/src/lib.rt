@@ -2,7 +2,7 @@
 //
 // Each record has its rules (document 01, 'Blocks') as a test: a good block holds a record that
 // keeps them, and every step keeps them. What a record is written as is no business here, nor what
-// a step makes of it.
+// a step makes of it: `Granted` is only the form of that.
 #![tactic(auto)]
 
 mod granted;

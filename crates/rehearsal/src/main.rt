@@ -85,5 +85,7 @@ fn main(rt: HostRuntime) -> io::Result<()> {
     let mut hall = zeros::<HALL>();
     let mut input = zeros::<PIECE>();
     let mut out = zeros::<ROOM>();
+    // An answer takes 22 bytes at most.
+    prove!(hall.len() == 60416 && input.len() == 32768 && out.len() == 22 * input.len());
     rehearse(&rt, &mut rt.reader(), &mut hall, &mut input, &mut out)
 }

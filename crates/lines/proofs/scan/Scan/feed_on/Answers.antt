@@ -12,7 +12,7 @@ pub returns-then-byte-eq10 : goal.returns-then-byte-eq10
 returns-then-byte-eq10 c = reads_to_lf _ c.loop-read.invariant _ _ c.in-Some.ensures.lookup.0.2 c.loop-read-test.true c.if-byte-eq10.true
 
 pub loop-read-preserved : goal.loop-read-preserved
-loop-read-preserved c = reads_on _ c.loop-read.invariant c.loop-read-test.true c.if-byte-eq10.false c.feed-scan.ensures
+loop-read-preserved c = reads_on _ c.loop-read.invariant c.loop-read-test.true c.if-byte-eq10.false c.take.ensures
 
 pub returns : goal.returns
 returns c = reads_to_end _ c.loop-read.invariant _ _ c.in-Some.ensures.lookup.0.2 c.loop-read-test.false c.loop-read.auto.read-end

@@ -10,5 +10,5 @@ pub returns : goal.returns
 unfolding agreed_line line_at
 returns c =
     ap (λ (l : Line). l.mark) c.unwrap_or.ensures ∙
-    line_found {xs = c.args.self.lines} c.find.new.self most_boxes (enough most_boxes c.args.need (line_at c.args.self)) _ c.find.result c.find.ensures.ran
+    line_found {xs = c.args.self.now.lines} c.find.new.self most_boxes (enough most_boxes c.args.need (line_at c.args.self.now)) _ c.find.result c.find.ensures.ran
     (cc) (search length_mapped) (λ x b q k. search rules)

@@ -9,4 +9,4 @@ use Rattle.readers.proofs.counting.Column.carrying.Goals as goal
 
 pub returns : goal.returns
 unfolding carrying line_at
-returns c = count_in {xs = c.args.self.lines} most_boxes (λ (l : Line). prefix_mark c.args.line.mark l.mark) _ _ c.count.ensures.ran (cc) c.filter.ensures.closure (search length_mapped) (λ x b q k. search rules)
+returns c = count_in {xs = c.args.self.now.lines} most_boxes (λ (l : Line). prefix_mark c.args.line.mark l.mark) _ _ c.count.ensures.ran (cc) c.filter.ensures.closure (search length_mapped) (λ x b q k. search rules)

@@ -17,7 +17,7 @@ use Rattle.acts.proofs.Familiar.{propose_familiar, one_a_familiar, one_b_familia
 use Rattle.acts.proofs.Ways.{row_again}
 use Rattle.acts.proofs.Answered.{row_sent, row_kept, both_sent, both_kept}
 use Rattle.acts.proofs.Coded.{as_offer, as_start, as_join, as_hear, as_open, as_prepare, as_fast, as_blank, as_take_page, as_take_reading, as_note_vote, as_note_blank, as_learn}
-use Rattle.acts.proofs.acts.act.Goals as goal
+use Rattle.acts.proofs.acts.perform.Goals as goal
 
 pub returns-in-Offer : goal.returns-in-Offer
 unfolding offer_act
