@@ -17,20 +17,25 @@ use Rattle.acts.specs.Shapes.{Sends, Stays}
 use Rattle.acts.proofs.Familiar.{Familiar}
 use Rattle.acts.proofs.Ways.{row_says, row_own, row_granted, row_refused, both_say, both_own, both_granted, both_refused}
 
--- refused: the buffers stay
-pub stays : {found : ℕ} {act : Act} (result : Result Bool Refusal) {a s a' s' : List ℕ} → (found ≡ granted → ⊥) → number_of result ≡ found → a' ≡ a → s' ≡ s →
-    Acts found act (number_of result) (value_or false result) a s a' s'
-stays {found} {act} result {a} {s} h e p q =
+-- refused, by whatever number: the buffers stay
+pub left : {found n : ℕ} {act : Act} {sends : Bool} {a s a' s' : List ℕ} → (found ≡ granted → ⊥) → n ≡ found → sends ≡ false → a' ≡ a → s' ≡ s →
+    Acts found act n sends a s a' s'
+left {found} {n} {act} {sends} {a} {s} h e b p q =
     record {
       numbered = e;
-      sending = silent result e ∙ ap (λ (b : Bool). b && act.sends) (sym off);
-      kept = p ∙ ap (λ (b : Bool). cond b act.row a) (sym off);
-      told = q ∙ ap (λ (b : Bool). cond (b && act.sends) act.sent s) (sym off);
+      sending = b ∙ ap (λ (x : Bool). x && act.sends) (sym off);
+      kept = p ∙ ap (λ (x : Bool). cond x act.row a) (sym off);
+      told = q ∙ ap (λ (x : Bool). cond (x && act.sends) act.sent s) (sym off);
     }
   where
     off : eqb found granted ≡ false
     off = ne_eqb found granted h
 
+-- the same of what the code answers
+pub stays : {found : ℕ} {act : Act} (result : Result Bool Refusal) {a s a' s' : List ℕ} → (found ≡ granted → ⊥) → number_of result ≡ found → a' ≡ a → s' ≡ s →
+    Acts found act (number_of result) (value_or false result) a s a' s'
+stays {found} result h e p q = left h e (silent result e) p q
+  where
     silent : (r : Result Bool Refusal) → number_of r ≡ found → value_or false r ≡ false
     silent (Ok b) z = absurd (h (sym z))
     silent (Err e) z = refl

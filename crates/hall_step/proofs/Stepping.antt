@@ -24,7 +24,7 @@ use Rattle.step_numbers.specs.Narrowed.{narrowed}
 use Rattle.hall.proofs.Cells.{put_length}
 use Rattle.hall_step.specs.Reached.{Reached}
 use Rattle.hall_step.proofs.Parts.{put_part}
-use Rattle.hall.proofs.StepFacts.{exists_code, exists_agent, exists_range}
+use Rattle.hall.proofs.StepFacts.{exists_code, exists_agent}
 use Rattle.step_numbers.proofs.StepNumbers.{row_within, message_within}
 use Rattle.step_numbers.proofs.SameAct.{same_act, same_named}
 
@@ -73,9 +73,6 @@ module _ (hall : List ℕ) (x : Step) where
     few = leb-true _ _ (subst (λ (n : ℕ). leb n most_messages ≡ true) (sym r.counted) (and_right (stamp_rules (head_of hall) 1) _ rules))
 
     -- what the step names lies within the hall
-    pub code_within : (1 ≤ x.code) × (x.code ≤ 13)
-    code_within = exists_range stamp.setup count x r.exists
-
     pub place_within : {first : ℕ} → first ≡ rows_at x.code → first + x.agent < messages_at
     place_within e = subst (λ (n : ℕ). n + x.agent < messages_at) (sym e) (row_within stamp.setup setup_small x (exists_agent stamp.setup count x r.exists))
 
